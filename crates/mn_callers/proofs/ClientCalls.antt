@@ -383,7 +383,7 @@ living_client start points c run lives alive = record { run = run; dead = λ dea
 -- An operation is begun
 
 pub works_none : (es : List Entry) (p : ProxyState) (work : Option (Work × Errand)) → work ≡ None → WorksBy es p work → under_way es ≡ None
-works_none es p None is a = a
+works_none es p None is a = a.0
 works_none es p (Some w) is a = absurd cc
 
 pub begin_may : (start : Start) (points : List Point) (c : Client) (op : Op) → IsOfRun start points c → HasProxy start c → IsIdle c.proxy → MayAdd c.list.client (past_of c) (Begin (c.begun + 1) op)

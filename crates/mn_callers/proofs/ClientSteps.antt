@@ -211,21 +211,21 @@ read_under_way : (es : List Entry) (known : Known) (w : Work) (purpose : Purpose
 read_under_way es known w purpose bytes r =
     subst (λ (l : List Entry). IsUnderWay l w.op) (sym r.split) (elim r.came [
       | inl exec ↦ still_under_way r.e r.before _ w.op exec.2 r.open_before.of
-      | inr peek ↦ still_under_way r.e r.before _ w.op peek.0 r.open_before.of
+      | inr peek ↦ still_under_way r.e r.before _ w.op peek.0.1 r.open_before.of
     ])
 
 peeked_under_way : (es : List Entry) (known : Known) (w : Work) (place : Place) (purpose : Purpose) (reply : NodeReply) → PeekedAgrees es known w place purpose reply → IsUnderWay es w.op
 peeked_under_way es known w place purpose (Say.Peeked bytes) a = read_under_way es known w purpose bytes a
 peeked_under_way es known w place purpose Say.Down a = a.0
-peeked_under_way es known w place purpose Say.Stopped a = a
-peeked_under_way es known w place purpose (Say.Done reads) a = a
-peeked_under_way es known w place purpose (Say.BadLock from long holder) a = a
-peeked_under_way es known w place purpose (Say.BadCompare item found) a = a
-peeked_under_way es known w place purpose Say.BadForced a = a
-peeked_under_way es known w place purpose (Say.Vote vote) a = a
-peeked_under_way es known w place purpose Say.Decided a = a
-peeked_under_way es known w place purpose (Say.Listed doubts) a = a
-peeked_under_way es known w place purpose Say.NoMemory a = a
+peeked_under_way es known w place purpose Say.Stopped a = a.0
+peeked_under_way es known w place purpose (Say.Done reads) a = a.0
+peeked_under_way es known w place purpose (Say.BadLock from long holder) a = a.0
+peeked_under_way es known w place purpose (Say.BadCompare item found) a = a.0
+peeked_under_way es known w place purpose Say.BadForced a = a.0
+peeked_under_way es known w place purpose (Say.Vote vote) a = a.0
+peeked_under_way es known w place purpose Say.Decided a = a.0
+peeked_under_way es known w place purpose (Say.Listed doubts) a = a.0
+peeked_under_way es known w place purpose Say.NoMemory a = a.0
 
 errand_under_way : (es : List Entry) (known : Known) (w : Work) (errand : Errand) → ErrandAgrees es known w errand → IsUnderWay es w.op
 errand_under_way es known w out.Nothing a = a.0.of

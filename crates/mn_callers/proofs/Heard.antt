@@ -1,5 +1,5 @@
 -- The log of which a look at the clock tells is a trail of the run.
-use Rattle.std.proofs.Common.{◌≡◌, ℕ, ◌+◌, ◌<◌, ◌≤◌, Bool, true, false, Option, Some, None, List, [], ◌∷◌, ◌++◌, length, filter, reverse, refl, sym, ap, ◌∙◌, subst, arith, if◌then◌else◌}
+use Rattle.std.proofs.Common.{◌≡◌, ℕ, ◌<◌, Bool, true, false, Option, Some, None, List, [], ◌∷◌, ◌++◌, length, filter, reverse, refl, sym, ap, ◌∙◌, subst, arith, if◌then◌else◌}
 use Rattle.std.specs.Prelude.{slice_get, IsSome, IsSomeAnd}
 use Rattle.std.specs.List.{AllByRecursion}
 use Rattle.std.specs.Option.{option_map_or}
@@ -8,12 +8,12 @@ use Rattle.atomic_table.specs.Seated.{TableId}
 use Rattle.mn_actors.specs.declared.actor.Actor.TheVariants.{Client, Node}
 use Rattle.mn_actors.specs.declared.clock.View.{View}
 use Rattle.mn_actors.specs.Lines.{Line, stands_in}
-use Rattle.mn_actors.specs.Lists.{IsSameLists, held}
+use Rattle.mn_actors.specs.Lists.{IsSameLists}
 use Rattle.mn_actors.specs.Rule.{IsLegalLog, grown, list_of}
 use Rattle.mn_base.specs.Ids.{client_same}
 use Rattle.mn_base.specs.declared.ids.ClientNo.{ClientNo}
 use Rattle.mn_base.specs.declared.ids.NodeNo.{NodeNo}
-use Rattle.mn_cell.specs.Calls.{IsLegalLine, numbered}
+use Rattle.mn_cell.specs.Calls.{IsLegalLine}
 use Rattle.mn_cell.specs.Hearing.{HasOneLog, StationsStay}
 use Rattle.mn_cell.specs.Station.{HasCaller, StationState}
 use Rattle.mn_cell.proofs.Owed.{newest_entry}
@@ -22,7 +22,6 @@ use Rattle.mn_world.specs.declared.entry.Entry.{Entry}
 use Rattle.mn_world.specs.Calls.{is_at, is_by}
 use Rattle.mn_world.specs.Protocol.{IsActor, Start}
 use Rattle.mn_world.specs.Run.{entries_of}
-use Rattle.mn_callers.specs.declared.callers.Callers.{Callers}
 use Rattle.mn_callers.specs.Hands.{Fall}
 use Rattle.mn_callers.specs.Plays.{HasTrail, IsAtRest, IsManned, PlayState, list_by}
 use Rattle.mn_callers.specs.Turn.{callers_count, trail_at, trail_by}

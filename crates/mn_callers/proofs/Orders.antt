@@ -1,6 +1,5 @@
 -- The operations that a client has begun are its first ones, in order.
 use Rattle.std.proofs.Common.{◌≡◌, ℕ, ◌+◌, ◌<◌, List, [], ◌∷◌, ◌++◌, get_or, length, map, reverse, take, refl, sym, ap, ◌∙◌, subst, inl, inr, ⊎_elim, arith}
-use Rattle.std.specs.Prelude.{◌⊎◌}
 use Rattle.std.proofs.lemmas.List.{append_assoc, length-append, map-append, nil_from_length, reverse-append}
 use Rattle.std.proofs.Math.Seq.{take-suc}
 use Rattle.mn_base.specs.declared.ids.ClientNo.{ClientNo}

@@ -1,5 +1,5 @@
 -- Where each caller's list only grew, at places from the one that was known, a trail goes on by entries of those.
-use Rattle.std.proofs.Common.{◌≡◌, ℕ, suc, ◌+◌, ◌<◌, ◌≤◌, ◌⊎◌, Bool, true, false, Option, Some, None, List, [], ◌∷◌, ◌++◌, length, map, filter, reverse, refl, sym, ap, ◌∙◌, subst, inl, inr, ⊎_elim, arith, if◌then◌else◌, nat_lt}
+use Rattle.std.proofs.Common.{◌≡◌, ℕ, suc, ◌<◌, ◌≤◌, ◌⊎◌, Bool, true, false, Option, Some, None, List, [], ◌∷◌, ◌++◌, map, filter, reverse, refl, sym, ap, ◌∙◌, subst, inl, inr, ⊎_elim, arith, if◌then◌else◌, nat_lt}
 use Rattle.std.specs.Prelude.{Contains, IsSomeAnd}
 use Rattle.std.specs.List.{AllByRecursion}
 use Rattle.std.specs.Option.{option_map_or}
@@ -19,7 +19,7 @@ use Rattle.mn_world.proofs.Reading.Same.{client_same-refl}
 use Rattle.mn_callers.specs.Hands.{Fall}
 use Rattle.mn_callers.specs.Hearing.{GoesOnFrom, HaveGrown, IsAmongOwn}
 use Rattle.mn_callers.specs.Logs.{HasLog}
-use Rattle.mn_callers.specs.Plays.{HasTrail, IsAtRest, IsManned, PlayState, list_by}
+use Rattle.mn_callers.specs.Plays.{HasTrail, IsAtRest, IsManned, PlayState}
 use Rattle.mn_callers.specs.Turn.{callers_count, past_in, trail_by}
 use Rattle.mn_callers.proofs.Heard.{AreCalled, heard_trail, still_rests}
 use Rattle.mn_callers.proofs.OneTrail.{In, fall_climbs, in_back, in_filter, in_front, in_reverse, of_filter, of_reverse, same_lists}

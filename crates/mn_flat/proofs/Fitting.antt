@@ -19,10 +19,12 @@ use Rattle.mn_mini.specs.declared.record.Record.{Record}
 use Rattle.mn_mini.specs.declared.record.Record.TheVariants.{Voted, Executed, Decided, Forced}
 use Rattle.mn_mini.specs.Node.{is_of, has_voted, has_executed, has_decided_yes, has_decided_no, is_held, is_vote_of, is_execution_of, is_yes_of, is_no_of}
 use Rattle.mn_mini.proofs.Parts.{same_self, same_true}
-use Rattle.mn_world.specs.Opened.{AreSound, AreInPlace, IsInPlace, voted_participants, have_voted, is_committed, has_record}
+use Rattle.mn_world.specs.Opened.{AreSound, HeldAreGreater, AreInPlace, IsInPlace, voted_participants, have_voted, is_committed, has_record}
 use Rattle.mn_world.proofs.Reading.Same.{tid_same-refl, tid_same-true}
 use Rattle.mn_world.proofs.Votes.Start.{vote_names, named_record, held_has_vote, voted_executed}
 use Rattle.mn_flat.specs.Votes.{IsRight, AreRight, lists_of, all_of, list_at, elders, has_several, has_all_votes, is_both, names_none_but}
+use Rattle.mn_world.specs.Protocol.{start_of, base_at}
+use Rattle.mn_flat.proofs.Voting.{held_rises}
 use Rattle.mn_flat.proofs.Lists.{place_in, read_at}
 use Rattle.mn_flat.proofs.Telling.{newest_named, same_nodes-refl}
 
@@ -336,8 +338,8 @@ record_of records r there =
           | inr there ↦ let s = in_list lists there in (suc s.0, (let low = s.1 in omega arith), s.2)
         ]
 
-pub fit_right : (records : List (List Record)) → AreSound (length records) (lists_of records) → (n : NodeNo) (number : ℕ) (r : Record) → slice_get (list_at records n) number ≡ Some r → IsRight records n (elders records n number) r
-fit_right records s n number r at = right r at
+pub fit_right : (records : List (List Record)) → AreSound (length records) (lists_of records) → HeldAreGreater (length records) (base_at (start_of records)) (lists_of records) → (n : NodeNo) (number : ℕ) (r : Record) → slice_get (list_at records n) number ≡ Some r → IsRight records n (elders records n number) r
+fit_right records s g n number r at = right r at
   where
     below : n.0 < length records
     below = by (below_or n.0 (length records))
@@ -426,7 +428,7 @@ fit_right records s n number r at = right r at
             cc
 
     right : (q : Record) → slice_get (list_at records n) number ≡ Some q → IsRight records n older q
-    right (Voted tid ps part) e = ((here (Voted tid ps part) e, alike tid ps part e), tt)
+    right (Voted tid ps part) e = ((here (Voted tid ps part) e, alike tid ps part e, held_rises records g n below tid), tt)
     right (Executed tid part) e = ((here (Executed tid part) e, alone tid (among (is_execution_of tid) (Executed tid part) e (tid_same-refl tid))), tt)
     right (Decided tid true) e = let h = here (Decided tid true) e in ((h, voted tid e h), one_way tid)
     right (Decided tid false) e = (here (Decided tid false) e, one_way tid)

@@ -5,3 +5,5 @@ pub mod Telling
 pub mod Fitting
 pub mod Opening
 pub mod Placing
+pub mod Rising
+pub mod Voting

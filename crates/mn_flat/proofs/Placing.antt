@@ -2,7 +2,8 @@
 use Rattle.std.proofs.Common.{◌≡◌, ◌<◌, inl, inr, ℕ, zero, suc, List, [], ◌∷◌, ◌++◌, take, reverse, Some, slice_get, refl, ap, sym, ◌∙◌, subst, arith, length}
 use Rattle.mn_base.specs.declared.ids.NodeNo.{NodeNo}
 use Rattle.mn_mini.specs.declared.record.Record.{Record}
-use Rattle.mn_world.specs.Opened.{AreSound}
+use Rattle.mn_world.specs.Opened.{AreSound, HeldAreGreater}
+use Rattle.mn_world.specs.Protocol.{start_of, base_at}
 use Rattle.mn_flat.specs.declared.error.VoteError.{VoteError}
 use Rattle.mn_flat.specs.declared.error.VoteError.TheVariants.{Unvoted, Both, NoMemory}
 use Rattle.mn_flat.specs.Refusal.{RefusesRecords, IsWantOfMemory}
@@ -65,7 +66,7 @@ refused records n (Both node k) right w =
     subst (λ (m : NodeNo). RefusesRecords records (Both m k)) (sym says.0) (record { r = w.r; place = first_wrong records n k (Both node k) right w; voted = says.2; wrong = says.3 })
 refused records n NoMemory right w = tt
 
-pub unfit : (records : List (List Record)) (e : VoteError) → RefusesRecords records e → (IsWantOfMemory e → ⊥) → AreSound (length records) (lists_of records) → ⊥
-unfit records (Unvoted node k) w some sound = w.wrong (fit_right records sound node k w.r w.place.there).0
-unfit records (Both node k) w some sound = w.wrong (fit_right records sound node k w.r w.place.there).1
-unfit records NoMemory w some sound = some refl
+pub unfit : (records : List (List Record)) (e : VoteError) → RefusesRecords records e → (IsWantOfMemory e → ⊥) → AreSound (length records) (lists_of records) → HeldAreGreater (length records) (base_at (start_of records)) (lists_of records) → ⊥
+unfit records (Unvoted node k) w some sound greater = w.wrong (fit_right records sound greater node k w.r w.place.there).0
+unfit records (Both node k) w some sound greater = w.wrong (fit_right records sound greater node k w.r w.place.there).1
+unfit records NoMemory w some sound greater = some refl

@@ -13,7 +13,7 @@ use Rattle.mn_mini.specs.declared.record.Record.{Record}
 use Rattle.mn_mini.specs.declared.record.Record.TheVariants.{Voted, Executed, Decided, Forced}
 use Rattle.mn_mini.specs.Node.{HeldPart, has_voted, has_executed, held_parts, held_part_of, is_held}
 use Rattle.mn_mini.proofs.Parts.{same_self, same_true}
-use Rattle.mn_world.specs.Opened.{voted_participants, have_voted, is_committed, has_record, is_free}
+use Rattle.mn_world.specs.Opened.{voted_participants, have_voted, is_committed, has_record, is_free, IsInPlace}
 use Rattle.mn_world.proofs.Reading.Same.{tid_same-refl}
 use Rattle.mn_world.proofs.Votes.Start.{vote_names}
 use Rattle.mn_world.proofs.Computed.Standing.{all_same}
@@ -274,12 +274,15 @@ has_here (m ∷ ms) n e = by (has_here ms n) (node_same m n) refl e
     by ih true e f = (0, omega arith, same_true m n e)
     by ih false e f = later (ih f)
 
+-- in place, and of the same participants as the others
+abbrev pub VoteFits : List (List Record) → NodeNo → List Record → Tid → List NodeNo → List PartItem → Type 0
+VoteFits records n older tid ps part = IsInPlace (length records) n older (Voted tid ps part) × (list_all (names_none_but tid ps) (all_of records) ≡ true)
+
 pub vote_in : (told : Told) (past : Past) (records : List (List Record)) (older : List Record) (n : NodeNo) (r : Record) (tid : Tid) (ps : List NodeNo) (part : List PartItem) (b : Bool)
     → IsTold told records → IsPast past older → Contains (all_of records) r → r ≡ Voted tid ps part
     → b ≡ (not (known_at past.known tid).seen && (list_all (λ m. nat_lt m.0 (length told.nodes.items)) ps && (list_any (λ m. node_same m n) ps && (is_free (parts_seen past.held.items) part && not (known_at told.all tid).differ))))
-    → MatchBool b (KeepsVotes records n older r) (KeepsVotes records n older r → ⊥)
-vote_in told past records older n r tid ps part b is before there e f =
-    subst (λ (q : Record). MatchBool b (KeepsVotes records n older q) (KeepsVotes records n older q → ⊥)) (sym e) (by b test)
+    → MatchBool b (VoteFits records n older tid ps part) (VoteFits records n older tid ps part → ⊥)
+vote_in told past records older n r tid ps part b is before there e f = by b test
   where
     names : Bool
     names = list_all (names_none_but tid ps) (all_of records)
@@ -300,7 +303,7 @@ vote_in told past records older n r tid ps part b is before there e f =
     not_true false e = refl
 
     by : (b : Bool) → b ≡ (not (has_record older tid) && (list_all (λ m. nat_lt m.0 (length records)) ps && (list_any (λ m. node_same m n) ps && (is_free (held_parts older) part && list_all (names_none_but tid ps) (all_of records)))))
-        → MatchBool b (KeepsVotes records n older (Voted tid ps part)) (KeepsVotes records n older (Voted tid ps part) → ⊥)
+        → MatchBool b (VoteFits records n older tid ps part) (VoteFits records n older tid ps part → ⊥)
     by true e =
         let one = both_parts _ _ (sym e) in let two = both_parts _ _ one.1 in let three = both_parts _ _ two.1 in let four = both_parts _ _ three.1 in
         ((not_true _ one.0, all_below (length records) ps two.0, has_here ps n three.0, four.0), four.1)

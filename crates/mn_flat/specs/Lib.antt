@@ -1,3 +1,4 @@
+pub mod Numbers
 pub mod Votes
 pub mod Known
 pub mod Told

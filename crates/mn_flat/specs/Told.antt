@@ -2,7 +2,10 @@
 use Rattle.std.specs.Prelude.{◌≡◌, ℕ, List, length, Some, slice_get, ⊤}
 use Rattle.mn_base.specs.declared.ids.NodeNo.{NodeNo}
 use Rattle.mn_mini.specs.declared.record.Record.{Record}
-use Rattle.mn_mini.specs.Node.{held_parts}
+use Rattle.mn_mini.specs.Node.{held_parts, space_of}
+use Rattle.mn_page.specs.Base.{base_of}
+use Rattle.mn_page.specs.Space.{space_length}
+use Rattle.mn_flat.specs.declared.held.Held.{Held}
 use Rattle.mn_flat.specs.declared.error.VoteError.{VoteError}
 use Rattle.mn_flat.specs.declared.error.VoteError.TheVariants.{Unvoted, Both, NoMemory}
 use Rattle.mn_flat.specs.declared.votes.Told.{Told}
@@ -21,6 +24,13 @@ pub record IsTold (told : Told) (records : List (List Record)) : Type 0 where
 pub record IsPast (past : Past) (older : List Record) : Type 0 where
   pub known : TableTells past.known older
   pub held : parts_seen past.held.items ≡ held_parts older
+
+-- what is kept in the end is what all records of the node make
+pub record IsEnd (parts : List Held) (bytes : List ℕ) (records : List (List Record)) (n : NodeNo)
+    : Type 0 where
+  pub held : parts_seen parts ≡ held_parts (lists_of records n)
+  pub space : bytes ≡ space_of (base_of (length records) n.0) (lists_of records n)
+  pub whole : length bytes ≡ space_length
 
 -- the record with this number, after these older ones, is wrong as the answer says
 abbrev pub SaysWrong : List (List Record) → NodeNo → ℕ → List Record → Record → VoteError → Type 0

@@ -2,7 +2,7 @@
 -- records of a node stand oldest first here; what a record may be is said of its elders, which
 -- stand newest first.
 use Rattle.std.specs.Prelude.{◌≡◌, ℕ, ◌<◌, ◌⊎◌, Bool, true, false, not, ◌&&◌, ◌||◌, List, [], ◌∷◌}
-use Rattle.std.specs.Prelude.{length, take, reverse, Some, ⊤, slice_get, slice_index_or}
+use Rattle.std.specs.Prelude.{length, take, reverse, Some, ⊤, slice_get, slice_index_or, Contains}
 use Rattle.std.specs.List.{list_all, flat_map}
 use Rattle.std.specs.Option.{option_map_or}
 use Rattle.mn_base.specs.Ids.{node_same, tid_same}
@@ -10,10 +10,13 @@ use Rattle.mn_base.specs.declared.ids.NodeNo.{NodeNo}
 use Rattle.mn_base.specs.declared.ids.Tid.{Tid}
 use Rattle.mn_mini.specs.declared.record.Record.{Record}
 use Rattle.mn_mini.specs.declared.record.Record.TheVariants.{Voted, Executed, Decided, Forced}
-use Rattle.mn_mini.specs.Node.{is_of, has_decided_yes, has_decided_no}
+use Rattle.mn_mini.specs.Node.{is_of, has_decided_yes, has_decided_no, HeldPart, held_parts}
+use Rattle.mn_mini.specs.Node.{space_of}
+use Rattle.mn_page.specs.Base.{base_of}
 use Rattle.mn_world.specs.Protocol.{start_of, start_records}
 use Rattle.mn_world.specs.Opened.{voted_participants, have_voted, is_committed, has_record}
 use Rattle.mn_world.specs.Opened.{IsInPlace}
+use Rattle.mn_flat.specs.Numbers.{PartRises}
 
 -- the records of each node, and those of all nodes one node after the other, newest first
 abbrev pub lists_of : List (List Record) → NodeNo → List Record
@@ -49,13 +52,21 @@ abbrev pub has_all_votes : (NodeNo → List Record) → NodeNo → Tid → Bool
 has_all_votes lists n tid =
     option_map_or (have_voted lists tid) (voted_participants tid (lists n)) false
 
+-- what the node holds of the id in the end writes greater numbers, if the id is committed
+abbrev pub HeldRises : List (List Record) → NodeNo → Tid → Type 0
+HeldRises records n tid =
+    is_committed (length records) (lists_of records) tid ≡ true
+    → (h : HeldPart) → Contains (held_parts (lists_of records n)) h → h.tid ≡ tid
+    → PartRises n (space_of (base_of (length records) n.0) (lists_of records n)) h.part
+
 -- A record is in place after its elders. Every vote for the id of a vote names the same
--- participants, an execution is the only record of its id, and a decided yes has the vote of each
--- participant.
+-- participants, what is held of a committed id writes greater numbers, an execution is the only
+-- record of its id, and a decided yes has the vote of each participant.
 abbrev pub KeepsVotes : List (List Record) → NodeNo → List Record → Record → Type 0
 KeepsVotes records n older (Voted tid participants part) =
     IsInPlace (length records) n older (Voted tid participants part)
     × (list_all (names_none_but tid participants) (all_of records) ≡ true)
+    × HeldRises records n tid
 KeepsVotes records n older (Executed tid part) =
     IsInPlace (length records) n older (Executed tid part)
     × (has_several (all_of records) tid ≡ false)

@@ -5,8 +5,8 @@ use thiserror::Error;
 /// Why the records of all nodes make no memory.
 #[derive(Clone, Copy, Debug, PartialEq, Eq, Error)]
 pub enum VoteError {
-    /// Record `number`, from 0, of this node is out of place, or decides yes where a participant
-    /// has no vote.
+    /// Record `number`, from 0, of this node is out of place, decides yes where a participant has
+    /// no vote, or is a vote for a committed id that is held and doesn't write greater numbers.
     #[error("record {number} of node {} is out of place", node.0)]
     Unvoted { node: NodeNo, number: u32 },
     /// Record `number`, from 0, of this node decides an id that is decided no, and that is

@@ -6,16 +6,17 @@ ghost use Rattle.mn_base.specs.declared.ids.NodeNo.{NodeNo};
 ghost use Rattle.mn_mini.specs.declared.record.Record.{Record};
 ghost use Rattle.mn_mini.specs.Flat.{space_after_part};
 ghost use Rattle.mn_mini.specs.Node.{held_parts, space_of, with_held};
-ghost use Rattle.mn_world.specs.Opened.{AreSound, is_committed, opened_memory};
+ghost use Rattle.mn_world.specs.Opened.{AreSound, HeldAreGreater, is_committed, opened_memory};
 ghost use Rattle.mn_page.specs.Base.{base_of};
+ghost use Rattle.mn_page.specs.Space.{space_length};
 ghost use Rattle.mn_flat.specs.Known.{TableTells, parts_seen, says_committed};
 ghost use Rattle.mn_flat.specs.Refusal.{RefusesRecords, IsWantOfMemory};
-ghost use Rattle.mn_flat.specs.Told.{IsTold, IsPast, RefusesIn};
+ghost use Rattle.mn_flat.specs.Told.{IsTold, IsEnd, RefusesIn};
 ghost use Rattle.mn_flat.specs.Votes.{AreRight, lists_of, list_at, numbered};
-ghost use Rattle.mn_world.specs.Protocol.{start_of};
+ghost use Rattle.mn_world.specs.Protocol.{start_of, base_at};
 
 use crate::VoteError;
-use crate::held::Held;
+use crate::held::{Held, hold};
 use crate::known::Table;
 use crate::votes::{Past, Told, is_committed, note, test};
 use crate::write::write_items;
@@ -110,6 +111,51 @@ fn write_committed(told: &Told<'_>, held: &[Held<'_>], space: &mut [u8])
     }
 }
 
+/// Puts in place what the records of a node write, and tells what they hold in the end.
+fn finish<'a>(
+    alloc: Global,
+    list: &'a [Record],
+    space: &mut [u8],
+) -> Result<Vec<Held<'a>>, NoMemory>
+    ensures space { OnOk result (space.new ≡ space_of space.old (reverse list.now)) }
+    ensures held { IfOk result (λ held. parts_seen held.items ≡ held_parts (reverse list.now)) }
+{
+    let mut held = Vec::new(alloc);
+    for record in list {
+        apply(&held, record, space);
+        hold(&mut held, record)?;
+    }
+    Ok(held)
+}
+
+/// Tests the records of a node, whose space is this with what they wrote, and which hold this in
+/// the end. Unvoted, Both: the first that is wrong. NoMemory: there was no memory for it.
+fn test_all(
+    alloc: Global,
+    told: &Told<'_>,
+    held: &[Held<'_>],
+    space: &[u8],
+    node: NodeNo,
+    list: &[Record],
+) -> Result<(), VoteError>
+    ensures right { (records : List (List Record)) → IsTold told.now records
+        → list.now ≡ list_at records node → IsEnd held.now space.now records node
+        → OnOk result (AreRight records node (reverse list.now)) }
+    ensures wrong { (records : List (List Record)) → IsTold told.now records
+        → list.now ≡ list_at records node → IsEnd held.now space.now records node
+        → IfErr result (RefusesIn records node) }
+{
+    let mut past = Past {
+        known: Table::new(alloc),
+        held: Vec::new(alloc),
+    };
+    for (number, record) in list.iter().enumerate() {
+        test(told, held, space, &past, node, number, record)?;
+        note(&mut past, record)?;
+    }
+    Ok(())
+}
+
 /// Makes the space of a node with these records of its base space: every committed part is in
 /// place, whether decided or not. Unvoted, Both: the first record that is wrong. NoMemory: there
 /// was no memory for it.
@@ -124,20 +170,15 @@ fn replay(
         → OnOk result (space.new ≡ with_held (is_committed (length records) (lists_of records))
         (space_of space.old (reverse list.now)) (held_parts (reverse list.now))) }
     ensures right { (records : List (List Record)) → IsTold told.now records
-        → list.now ≡ list_at records node → OnOk result (AreRight records node (reverse list.now)) }
+        → list.now ≡ list_at records node → space.old ≡ base_of (length records) node.0
+        → length space.old ≡ space_length → OnOk result (AreRight records node (reverse list.now)) }
     ensures wrong { (records : List (List Record)) → IsTold told.now records
-        → list.now ≡ list_at records node → IfErr result (RefusesIn records node) }
+        → list.now ≡ list_at records node → space.old ≡ base_of (length records) node.0
+        → length space.old ≡ space_length → IfErr result (RefusesIn records node) }
 {
-    let mut past = Past {
-        known: Table::new(alloc),
-        held: Vec::new(alloc),
-    };
-    for (number, record) in list.iter().enumerate() {
-        test(told, &past, node, number, record)?;
-        apply(&past.held, record, space);
-        note(&mut past, record)?;
-    }
-    write_committed(told, &past.held, space);
+    let held = finish(alloc, list, space)?;
+    test_all(alloc, told, &held, space, node, list)?;
+    write_committed(told, &held, space);
     Ok(())
 }
 
@@ -155,10 +196,10 @@ fn space_with(
         ≡ with_held (is_committed (length records) (lists_of records))
         (space_of (base_of nodes node) (reverse list.now)) (held_parts (reverse list.now))) }
     ensures right { (records : List (List Record)) → IsTold told.now records
-        → list.now ≡ list_at records (numbered node)
+        → list.now ≡ list_at records (numbered node) → nodes ≡ length records
         → OnOk result (AreRight records (numbered node) (reverse list.now)) }
     ensures wrong { (records : List (List Record)) → IsTold told.now records
-        → list.now ≡ list_at records (numbered node)
+        → list.now ≡ list_at records (numbered node) → nodes ≡ length records
         → IfErr result (RefusesIn records (numbered node)) }
 {
     let mut space = base_space(alloc, node, nodes)?;
@@ -168,7 +209,8 @@ fn space_with(
 
 /// The flat memory of 1 to 8 nodes with these records, in which every committed minitransaction is
 /// applied whether decided or not. It comes only of records that fit together: each is in place, a
-/// decided yes has all its votes, and no id is decided both ways.
+/// decided yes has all its votes, no id is decided both ways, and what is held of committed ids
+/// writes pages and entries whole, with greater numbers than the spaces have.
 ///
 /// The first record by node and number that is at fault is named. Unvoted: it stands where it may
 /// not after the older ones of its node (a vote, an execution and a forced no are the first record
@@ -182,9 +224,14 @@ pub fn flat_of(alloc: Global, records: &[Records]) -> Result<Spaces, VoteError>
     requires few { length records.now ≤ 8 }
     ensures memory { IfOk result (λ memory. memory ≡ opened_memory (start_of records.now)) }
     ensures sound { OnOk result (AreSound (length records.now) (lists_of records.now)) }
+    ensures greater { OnOk result
+        (HeldAreGreater (length records.now) (base_at (start_of records.now))
+        (lists_of records.now)) }
     ensures named { IfErr result (RefusesRecords records.now) }
     ensures unsound { IfErr result
-        (λ e. (IsWantOfMemory e → ⊥) → AreSound (length records.now) (lists_of records.now) → ⊥) }
+        (λ e. (IsWantOfMemory e → ⊥) → AreSound (length records.now) (lists_of records.now)
+        → HeldAreGreater (length records.now) (base_at (start_of records.now))
+        (lists_of records.now) → ⊥) }
 {
     let told = told_of(alloc, records)?;
     let nodes = records.len() as u8;

@@ -5,6 +5,7 @@ mod error;
 mod flat;
 mod held;
 mod known;
+mod numbers;
 mod votes;
 mod write;
 

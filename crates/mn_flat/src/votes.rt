@@ -3,19 +3,21 @@ ghost use Rattle.std.specs.Prelude.{List, length, Option, option_map, MatchBool,
 ghost use Rattle.std.specs.Prelude.{Contains, slice_get};
 ghost use Rattle.std.specs.List.{list_all, list_any};
 ghost use Rattle.std.specs.Option.{option_map_or};
-ghost use Rattle.mn_base.specs.Ids.{node_same};
+ghost use Rattle.mn_base.specs.Ids.{node_same, tid_same};
 ghost use Rattle.mn_base.specs.declared.ids.NodeNo.{NodeNo};
 ghost use Rattle.mn_mini.specs.declared.record.Record.{Record};
 ghost use Rattle.mn_mini.specs.Node.{held_part_of};
 ghost use Rattle.mn_world.specs.Opened.{is_free};
 ghost use Rattle.mn_flat.specs.Known.{parts_seen, known_at, named_in, says_voted, says_all};
 ghost use Rattle.mn_flat.specs.Known.{says_committed};
-ghost use Rattle.mn_flat.specs.Told.{IsTold, IsPast, SaysWrong};
+ghost use Rattle.mn_flat.specs.Told.{IsTold, IsPast, IsEnd, SaysWrong};
+ghost use Rattle.mn_flat.specs.Numbers.{item_rises};
 ghost use Rattle.mn_flat.specs.Votes.{KeepsVotes, KeepsDecisions, IsRight, all_of};
 
 use crate::VoteError;
 use crate::held::{Held, held_of, hold, is_free};
 use crate::known::Table;
+use crate::numbers::held_rises;
 use mn_base::{NoMemory, NodeNo, Nodes, Tid};
 use mn_mini::{Part, Record};
 
@@ -112,6 +114,39 @@ fn vote_fits(
         && !told.all.of(tid).differ
 }
 
+/// Whether what is held for the id in the end writes greater numbers, if the id is committed.
+fn vote_rises(told: &Told<'_>, held: &[Held<'_>], space: &[u8], node: NodeNo, tid: Tid) -> bool
+    ensures { result ≡ (not (list_any
+        (says_committed told.now.nodes.items tid) told.now.nodes.items)
+        || list_all (λ h. not (tid_same h.tid tid)
+        || list_all (item_rises space.now node) h.part.now) held.now) }
+{
+    !is_committed(&told.nodes, tid) || held_rises(space, node, held, tid)
+}
+
+/// Whether both are so.
+fn vote_stands(
+    told: &Told<'_>,
+    held: &[Held<'_>],
+    space: &[u8],
+    past: &Past<'_>,
+    node: NodeNo,
+    tid: Tid,
+    participants: &Nodes,
+    part: &Part,
+) -> bool
+    ensures { result ≡ ((not (known_at past.now.known tid).seen
+        && (list_all (λ m. nat_lt m.0 (length told.now.nodes.items)) participants.now
+        && (list_any (λ m. node_same m node) participants.now
+        && (is_free (parts_seen past.now.held.items) part.now
+        && not (known_at told.now.all tid).differ))))
+        && (not (list_any (says_committed told.now.nodes.items tid) told.now.nodes.items)
+        || list_all (λ h. not (tid_same h.tid tid)
+        || list_all (item_rises space.now node) h.part.now) held.now)) }
+{
+    vote_fits(told, past, node, tid, participants, part) && vote_rises(told, held, space, node, tid)
+}
+
 /// Whether an execution may stand there.
 fn execution_fits(told: &Told<'_>, past: &Past<'_>, tid: Tid, part: &Part) -> bool
     ensures { result ≡ (not (known_at past.now.known tid).seen
@@ -149,9 +184,17 @@ fn decision_fits(told: &Told<'_>, past: &Past<'_>, node: NodeNo, tid: Tid, verdi
 }
 
 /// Whether the record stands where it may, after the older ones of its node.
-fn keeps_votes(told: &Told<'_>, past: &Past<'_>, node: NodeNo, record: &Record) -> bool
+fn keeps_votes(
+    told: &Told<'_>,
+    held: &[Held<'_>],
+    space: &[u8],
+    past: &Past<'_>,
+    node: NodeNo,
+    record: &Record,
+) -> bool
     ensures { (records : List (List Record)) (older : List Record) → IsTold told.now records
-        → IsPast past.now older → Contains (all_of records) record.now
+        → IsPast past.now older → IsEnd held.now space.now records node
+        → Contains (all_of records) record.now
         → MatchBool result (KeepsVotes records node older record.now)
         (KeepsVotes records node older record.now → ⊥) }
 {
@@ -160,7 +203,7 @@ fn keeps_votes(told: &Told<'_>, past: &Past<'_>, node: NodeNo, record: &Record) 
             tid,
             participants,
             part,
-        } => vote_fits(told, past, node, *tid, participants, part),
+        } => vote_stands(told, held, space, past, node, *tid, participants, part),
         Record::Executed { tid, part } => execution_fits(told, past, *tid, part),
         Record::Decided { tid, yes } => decision_fits(told, past, node, *tid, *yes),
         Record::Forced { tid } => !past.known.of(*tid).seen,
@@ -194,22 +237,26 @@ fn keeps_decisions(told: &Told<'_>, record: &Record) -> bool
 /// is above those that there are names for.
 pub fn test(
     told: &Told<'_>,
+    held: &[Held<'_>],
+    space: &[u8],
     past: &Past<'_>,
     node: NodeNo,
     number: usize,
     record: &Record,
 ) -> Result<(), VoteError>
     ensures right { (records : List (List Record)) (older : List Record) → IsTold told.now records
-        → IsPast past.now older → Contains (all_of records) record.now
+        → IsPast past.now older → IsEnd held.now space.now records node
+        → Contains (all_of records) record.now
         → OnOk result (IsRight records node older record.now) }
     ensures wrong { (records : List (List Record)) (older : List Record) → IsTold told.now records
-        → IsPast past.now older → Contains (all_of records) record.now
+        → IsPast past.now older → IsEnd held.now space.now records node
+        → Contains (all_of records) record.now
         → IfErr result (SaysWrong records node number older record.now) }
 {
     let Ok(number) = u32::try_from(number) else {
         return Err(VoteError::NoMemory);
     };
-    if !keeps_votes(told, past, node, record) {
+    if !keeps_votes(told, held, space, past, node, record) {
         return Err(VoteError::Unvoted { node, number });
     }
     if !keeps_decisions(told, record) {

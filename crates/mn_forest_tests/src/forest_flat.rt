@@ -6,8 +6,14 @@ use mn_mini::{Part, PartItem, Record, Records, SharedBytes, Spaces};
 use std::alloc::Global;
 use std::test::Fail;
 
-/// A place in the slots.
-const PLACE: u32 = 21_504;
+/// A place of no page and of no entry.
+const PLACE: u32 = 4_160;
+
+/// The place of a page: the second slot, which is free on both nodes.
+const SLOT: u32 = 21_504;
+
+/// The bytes of a slot.
+const SIZE: usize = 1_024;
 
 fn tid(serial: u32) -> Tid {
     Tid {
@@ -17,26 +23,43 @@ fn tid(serial: u32) -> Tid {
     }
 }
 
-/// A part that writes `61` at the place.
-fn part(alloc: Global) -> Result<Part, NoMemory> {
+/// A part that writes these bytes.
+fn writing(alloc: Global, start: u32, bytes: &[u8]) -> Result<Part, NoMemory> {
     let mut items = Vec::new(alloc);
     items.push(PartItem::Write {
-        start: PLACE,
-        bytes: SharedBytes::copy_of(alloc, &[0x61])?,
+        start,
+        bytes: SharedBytes::copy_of(alloc, bytes)?,
     })?;
     Ok(Part::from_vec(alloc, items)?)
 }
 
-/// A vote of id 1 for two nodes.
-fn voted(alloc: Global, one: u8, other: u8) -> Result<Record, NoMemory> {
+/// A part that writes `61` at the place.
+fn part(alloc: Global) -> Result<Part, NoMemory> {
+    writing(alloc, PLACE, &[0x61])
+}
+
+/// A part that writes so many bytes of the slot, under this number.
+fn numbered(alloc: Global, number: u8, size: usize) -> Result<Part, NoMemory> {
+    let mut bytes = [0u8; SIZE];
+    bytes[7] = number;
+    writing(alloc, SLOT, &bytes[..size.min(SIZE)])
+}
+
+/// A vote of id 1 for two nodes, with this part.
+fn vote(one: u8, other: u8, part: Part) -> Result<Record, NoMemory> {
     let mut participants = Nodes::new();
     participants.push(NodeNo(one))?;
     participants.push(NodeNo(other))?;
     Ok(Record::Voted {
         tid: tid(1),
         participants,
-        part: part(alloc)?,
+        part,
     })
+}
+
+/// The same that writes at the place.
+fn voted(alloc: Global, one: u8, other: u8) -> Result<Record, NoMemory> {
+    vote(one, other, part(alloc)?)
 }
 
 fn executed(alloc: Global, serial: u32) -> Result<Record, NoMemory> {
@@ -52,9 +75,18 @@ fn decided(yes: bool) -> Record {
 
 /// The record of id 1 that has this letter: v, a vote for nodes 0 and 1, and w, z and 8 for 1 and
 /// 1, 0 and 0, and 1 and 8; y and n, a decision with yes and with no; f, it is forced; e, an
-/// execution, and o, one of another id.
+/// execution, and o, one of another id. Votes for nodes 0 and 1 of the slot: 0 and 1 write it whole
+/// under these numbers, h the half of it under number 1; 2 is an execution of another id that
+/// writes it whole under number 2.
 fn record_of(alloc: Global, letter: u8) -> Result<Record, NoMemory> {
     match letter {
+        b'0' => vote(0, 1, numbered(alloc, 0, SIZE)?),
+        b'1' => vote(0, 1, numbered(alloc, 1, SIZE)?),
+        b'h' => vote(0, 1, numbered(alloc, 1, SIZE / 2)?),
+        b'2' => Ok(Record::Executed {
+            tid: tid(2),
+            part: numbered(alloc, 2, SIZE)?,
+        }),
         b'v' => voted(alloc, 0, 1),
         b'w' => voted(alloc, 1, 1),
         b'z' => voted(alloc, 0, 0),
@@ -187,6 +219,35 @@ fn names_a_record_out_of_place(rt: HostRuntime) {
 #[test]
 fn names_the_least_of_records_that_do_not_fit(rt: HostRuntime) {
     assert!(rt; are_unvoted(rt.alloc(), DO_NOT_FIT));
+}
+
+/// What is held of a committed id writes a page whole, with a greater number than stands there.
+const DO_NOT_RISE: &[Refused] = &[
+    // The number of a free slot, and half a page.
+    ("0", "0", 0, 0),
+    ("h", "h", 0, 0),
+    // Node 1 alone still holds its vote.
+    ("hy", "h", 1, 0),
+    // A lower number than that of an execution in front of the vote.
+    ("21", "1", 0, 1),
+];
+
+/// Votes that rise, and such that need not: the other node has no vote, or both have the decision.
+const RISE: &[(&str, &str)] = &[
+    ("1", "1"),
+    ("1y", "1"),
+    ("h", ""),
+    ("hy", "hy"),
+    ("0n", "0n"),
+];
+
+#[test]
+fn what_is_held_of_a_committed_id_has_greater_numbers(rt: HostRuntime) -> Result<(), Fail> {
+    assert!(rt; are_unvoted(rt.alloc(), DO_NOT_RISE));
+    for (zero, one) in RISE {
+        memory_of(rt.alloc(), zero, one)?;
+    }
+    Ok(())
 }
 
 const BOTH_WAYS: &[Refused] = &[

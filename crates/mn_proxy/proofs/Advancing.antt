@@ -8,14 +8,12 @@ use Rattle.mn_base.specs.declared.op.Op.{Op}
 use Rattle.mn_base.specs.declared.op.Op.TheVariants.{Tx, Snapshot, Branch, Scan, Versions}
 use Rattle.mn_base.specs.declared.reply.Reply.{Reply}
 use Rattle.mn_page.specs.declared.entry.CatEntry.{CatEntry}
-use Rattle.mn_page.specs.Forest.{heads_in}
 use Rattle.mn_base.specs.declared.op.Step.{Step}
 use Rattle.mn_scan.specs.Scan.{ScanState, may_be_leaf}
 use Rattle.mn_txn.specs.Tries.{FreeSlotsAreLeft, TriesShowCauses, WornPagesShow}
 use Rattle.mn_world.specs.declared.entry.Entry.{Entry}
 use Rattle.mn_world.specs.Calls.{since_begin}
 use Rattle.mn_world.specs.Clients.{is_plan}
-use Rattle.mn_world.specs.Planned.{IsPlanned}
 use Rattle.mn_world.specs.Shown.{ScanShows, Seen, seen_in}
 use Rattle.mn_work.specs.declared.attempt.Attempt.{Attempt}
 use Rattle.mn_work.specs.declared.child.Child.{Child}
@@ -26,7 +24,7 @@ use Rattle.mn_work.specs.declared.next.Next.{Next}
 use Rattle.mn_work.specs.declared.work.Job.{Job}
 use Rattle.mn_work.specs.declared.work.Job.TheVariants as at
 use Rattle.mn_work.specs.declared.work.Work.{Work}
-use Rattle.mn_proxy.specs.Agrees.{AreComparesShown, AreOverNodes, IsOpen, JobAsked, MayPeekFor}
+use Rattle.mn_proxy.specs.Agrees.{AreComparesShown, AreOverNodes, IsOpen, JobAsked, KeptIsLast, MayPeekFor}
 use Rattle.mn_work.specs.Attempts as attempts
 use Rattle.mn_work.specs.Children as children
 use Rattle.mn_work.specs.Descents as descents
@@ -35,12 +33,12 @@ use Rattle.mn_work.specs.Scans as scans
 use Rattle.mn_proxy.specs.Tries.{HasAsked}
 use Rattle.mn_work.specs.Walks.{FailsBy, IfLater, is_later}
 use Rattle.mn_work.specs.Knows.{KeepsKnown}
-use Rattle.mn_work.specs.Works.{BeginsBy, GetWants, IsJobIn, IsJobOf, IsStartable, JobWants, KeepsOp, ScanEnds}
+use Rattle.mn_work.specs.Works.{BeginsBy, GetWants, IsJobIn, IsJobOf, IsStartable, JobIsLast, JobWants, KeepsOp, ScanEnds}
 use Rattle.mn_work.specs.Works.{ScanWants, WantsNext}
 use Rattle.mn_proxy.proofs.ChildrenShow.{child_wants_for}
 use Rattle.mn_proxy.proofs.GetsShow.{PagesOrFails, get_wants_for}
 use Rattle.mn_proxy.proofs.ScansShow.{scan_ends_for, scan_wants_for}
-use Rattle.mn_proxy.proofs.Shown.{AnswerShown, WantShown, later_is}
+use Rattle.mn_proxy.proofs.Shown.{AnswerShown, DoesByLast, WantShown, later_is}
 use Rattle.mn_proxy.proofs.StepsShow.{steps_want_for}
 use Rattle.mn_work.proofs.Works.{AsksOrGoes, WentOn, asks_or_goes, begins_steps}
 use Rattle.mn_proxy.proofs.CatalogsShow.{begun_shows}
@@ -64,16 +62,16 @@ AnswerTold nodes failed now seens op answer =
     (AnswerShown nodes failed seens op answer × IsNoScan op)
     ⊎ ((reply : Reply) × (answer ≡ answers.Replied reply) × ScanShows (seen_in now) op reply)
 
-abbrev pub NextTold : ℕ → ℕ → List Entry → List Seen → Op → List CatEntry → Next → Type 0
-NextTold nodes failed now seens op entries (Next.Plan mini reply) =
-    ((es : List Entry) → IsPlanned es (heads_in entries) op mini reply)
+abbrev pub NextTold : ℕ → ℕ → List Entry → List Seen → Op → List CatEntry → Job → Next → Type 0
+NextTold nodes failed now seens op entries job (Next.Plan mini reply) =
+    DoesByLast op entries job mini reply
     × IfLater failed (AreComparesShown seens mini) × (mini.nodes ≡ nodes)
     × IsTrue (is_plan mini.items)
-NextTold nodes failed now seens op entries (Next.Fails cause) = FailsBy nodes failed seens op cause
-NextTold nodes failed now seens op entries (Next.Answers answer) =
+NextTold nodes failed now seens op entries job (Next.Fails cause) = FailsBy nodes failed seens op cause
+NextTold nodes failed now seens op entries job (Next.Answers answer) =
     AnswerTold nodes failed now seens op answer
-NextTold nodes failed now seens op entries Next.Catalog = ⊥
-NextTold nodes failed now seens op entries next = ⊤
+NextTold nodes failed now seens op entries job Next.Catalog = ⊥
+NextTold nodes failed now seens op entries job next = ⊤
 
 -- what its job has read is shown still, unless it is answered
 abbrev pub ShownStill : ℕ → List Entry → List Seen → Bool → Op → List CatEntry → Job → Next → Type 0
@@ -84,25 +82,25 @@ ShownStill failed now seens spoiled op entries job next =
 -- By jobs
 
 of_pages : (nodes failed : ℕ) (now : List Entry) (seens : List Seen) (op : Op)
-    (entries : List CatEntry) (next : Next) → PagesOrFails nodes failed seens op next
-    → NextTold nodes failed now seens op entries next
-of_pages nodes failed now seens op entries (Next.Page addr peek) told = tt
-of_pages nodes failed now seens op entries (Next.Fails cause) told = told
-of_pages nodes failed now seens op entries Next.Catalog told = absurd told
-of_pages nodes failed now seens op entries (Next.Count node peek) told = absurd told
-of_pages nodes failed now seens op entries (Next.Plan mini reply) told = absurd told
-of_pages nodes failed now seens op entries (Next.Answers answer) told = absurd told
+    (entries : List CatEntry) (job : Job) (next : Next) → PagesOrFails nodes failed seens op next
+    → NextTold nodes failed now seens op entries job next
+of_pages nodes failed now seens op entries job (Next.Page addr peek) told = tt
+of_pages nodes failed now seens op entries job (Next.Fails cause) told = told
+of_pages nodes failed now seens op entries job Next.Catalog told = absurd told
+of_pages nodes failed now seens op entries job (Next.Count node peek) told = absurd told
+of_pages nodes failed now seens op entries job (Next.Plan mini reply) told = absurd told
+of_pages nodes failed now seens op entries job (Next.Answers answer) told = absurd told
 
 of_wants : (nodes failed : ℕ) (now : List Entry) (seens : List Seen) (op : Op)
-    (entries : List CatEntry) (next : Next) → IsNoScan op → WantShown nodes failed seens op entries next
-    → NextTold nodes failed now seens op entries next
-of_wants nodes failed now seens op entries (Next.Page addr peek) scanless told = tt
-of_wants nodes failed now seens op entries (Next.Fails None) scanless told = tt
-of_wants nodes failed now seens op entries (Next.Fails (Some cause)) scanless told = told
-of_wants nodes failed now seens op entries Next.Catalog scanless told = absurd told
-of_wants nodes failed now seens op entries (Next.Count node peek) scanless told = tt
-of_wants nodes failed now seens op entries (Next.Plan mini reply) scanless told = told
-of_wants nodes failed now seens op entries (Next.Answers answer) scanless told = inl (told, scanless)
+    (entries : List CatEntry) (job : Job) (next : Next) → IsNoScan op → WantShown nodes failed seens op entries job next
+    → NextTold nodes failed now seens op entries job next
+of_wants nodes failed now seens op entries job (Next.Page addr peek) scanless told = tt
+of_wants nodes failed now seens op entries job (Next.Fails None) scanless told = tt
+of_wants nodes failed now seens op entries job (Next.Fails (Some cause)) scanless told = told
+of_wants nodes failed now seens op entries job Next.Catalog scanless told = absurd told
+of_wants nodes failed now seens op entries job (Next.Count node peek) scanless told = tt
+of_wants nodes failed now seens op entries job (Next.Plan mini reply) scanless told = told
+of_wants nodes failed now seens op entries job (Next.Answers answer) scanless told = inl (told, scanless)
 
 still : (failed : ℕ) (now : List Entry) (seens : List Seen) (spoiled : Bool) (op : Op)
     (entries : List CatEntry) (job : Job) (next : Next) → ReadsShow failed seens op entries job
@@ -265,7 +263,7 @@ child_no_scan known Versions c is = tt
 pub record JobTells (nodes failed : ℕ) (now : List Entry) (seens : List Seen) (spoiled : Bool)
     (op : Op) (entries : List CatEntry) (after : Job) (next : Next) : Type 0 where
   pub shown : ShownStill failed now seens spoiled op entries after next
-  pub told : NextTold nodes failed now seens op entries next
+  pub told : NextTold nodes failed now seens op entries after next
   pub peeks : PeeksAs failed after next
 
 module _ (nodes failed : ℕ) (now : List Entry) (seens : List Seen) (spoiled : Bool) (op : Op)
@@ -280,7 +278,7 @@ module _ (nodes failed : ℕ) (now : List Entry) (seens : List Seen) (spoiled : 
       let it = steps_want_for nodes failed seens entries known kept of a b causes worns left op next w reads in
       record {
         shown = still failed now seens spoiled op entries (at.Transaction b) next it.0 (no_scan_steps now spoiled op b);
-        told = of_wants nodes failed now seens op entries next (steps_no_scan known (is_later failed) op a b next w) it.1;
+        told = of_wants nodes failed now seens op entries (at.Transaction b) next (steps_no_scan known (is_later failed) op a b next w) it.1;
         peeks = steps_peek_for known failed entries op a b next kept w;
       }
 
@@ -292,7 +290,7 @@ module _ (nodes failed : ℕ) (now : List Entry) (seens : List Seen) (spoiled : 
       let it = get_wants_for nodes failed seens entries d e op next reads.1 (subst (λ (n : ℕ). GetWants n (is_later failed) d e next) of w) in
       record {
         shown = still failed now seens spoiled op entries (at.Get e) next (reads.0, it.0) (no_scan now spoiled op e);
-        told = of_pages nodes failed now seens op entries next it.1;
+        told = of_pages nodes failed now seens op entries (at.Get e) next it.1;
         peeks = get_peeks known.nodes failed e next w.wants;
       }
   job_tells (at.Transaction a) after is w reads shown =
@@ -303,21 +301,21 @@ module _ (nodes failed : ℕ) (now : List Entry) (seens : List Seen) (spoiled : 
       let it = child_wants_for nodes failed seens op entries c d known kept of is left next w reads in
       record {
         shown = still failed now seens spoiled op entries (at.Child d) next it.0 (no_scan_child now spoiled op d);
-        told = of_wants nodes failed now seens op entries next (child_no_scan known op c is) it.1;
+        told = of_wants nodes failed now seens op entries (at.Child d) next (child_no_scan known op c is) it.1;
         peeks = child_peeks known failed op d next w.wants;
       }
   job_tells (at.Scan s) (at.Scan t) is w reads shown =
       let it = scan_wants_for nodes failed seens entries known now spoiled s t op next is shown reads.1 (subst (λ (n : ℕ). ScanWants n (is_later failed) s t next) of w) in
       record {
         shown = still failed now seens spoiled op entries (at.Scan t) next (reads.0, it.1) it.0;
-        told = of_pages nodes failed now seens op entries next it.2;
+        told = of_pages nodes failed now seens op entries (at.Scan t) next it.2;
         peeks = scan_peeks known.nodes failed t next w.wants;
       }
   job_tells (at.Scan s) at.Start is w reads shown =
       let it = scan_ends_for nodes failed seens entries known now spoiled s w.0 op next is shown (subst (λ (n : ℕ). ScanEnds n (is_later failed) s w.0 next) of w.1) in
       record {
         shown = subst (ShownStill failed now seens spoiled op entries at.Start) (sym it.1) tt;
-        told = subst (NextTold nodes failed now seens op entries) (sym it.1) (inr (it.0, refl, it.2));
+        told = subst (NextTold nodes failed now seens op entries at.Start) (sym it.1) (inr (it.0, refl, it.2));
         peeks = subst (PeeksAs failed at.Start) (sym it.1) tt;
       }
   job_tells before after is w reads shown = absurd w
@@ -340,8 +338,9 @@ pub open_as : (es : List Entry) (known : Known) (w v : Work) (o : IsOpen es know
     → v.op ≡ w.op → v.failed ≡ w.failed
     → JobAsked known.nodes w.failed w.op (since_begin es) o.trying.before o.try known.catalog v.job
     → ScanShown (since_begin es) v.spoiled w.op v.job
-    → ReadsShowBy known w.failed (seen_in o.try) w.op v.job → OpenAs es known v o.try
-open_as es known w v o op failed asked shown reads =
+    → ReadsShowBy known w.failed (seen_in o.try) w.op v.job → JobIsLast es v.job
+    → OpenAs es known v o.try
+open_as es known w v o op failed asked shown reads last =
     subst (λ (x : Work). OpenAs es known x o.try) (work_as w v op failed) (record {
       is = record {
         of = o.of;
@@ -350,14 +349,16 @@ open_as es known w v o op failed asked shown reads =
         leafless = o.leafless;
         asked = asked;
         shows = (shown, reads);
+        last = (o.last.0, last);
       };
       try_is = refl;
     })
 
 -- what is kept stays
 pub open_kept : (es : List Entry) (known new : Known) (w : Work) → new.nodes ≡ known.nodes
-    → new.catalog ≡ known.catalog → (o : IsOpen es known w) → OpenAs es new w o.try
-open_kept es known new w nodes catalog o =
+    → new.catalog ≡ known.catalog → KeptIsLast es new → (o : IsOpen es known w)
+    → OpenAs es new w o.try
+open_kept es known new w nodes catalog last o =
     subst (λ (n : Known). OpenAs es n w o.try) same (record {
       is = record {
         of = o.of;
@@ -366,6 +367,7 @@ open_kept es known new w nodes catalog o =
         leafless = o.leafless;
         asked = o.asked;
         shows = o.shows;
+        last = (subst (KeptIsLast es) (sym same) last, o.last.1);
       };
       try_is = refl;
     })
@@ -407,7 +409,7 @@ abbrev pub ToldUnless : Known → Work → List Entry → List Entry → Next �
 ToldUnless known w now try Next.Catalog = ⊤
 ToldUnless known w now try next =
     MatchOption known.catalog ⊥
-    (λ entries. NextTold known.nodes w.failed now (seen_in try) w.op entries next
+    (λ entries. NextTold known.nodes w.failed now (seen_in try) w.op entries w.job next
     × PeeksAs w.failed w.job next)
 
 -- what it goes by it asked for, where it had to
@@ -431,7 +433,8 @@ module _ (es : List Entry) (known : Known) (before begun after : Work) (next : N
     × ReadsShow before.failed (seen_in o.try) before.op entries begun.job)
     (asked : JobAsked known.nodes before.failed before.op (since_begin es) o.trying.before o.try (Some entries) begun.job)
     (is : IsJobIn known before.op begun.job) (spoiled : after.spoiled ≡ begun.spoiled)
-    (wants : JobWants known (is_later before.failed) before.op begun.job after.job next) where
+    (wants : JobWants known (is_later before.failed) before.op begun.job after.job next)
+    (last : JobIsLast es after.job) where
   tells : JobTells known.nodes before.failed (since_begin es) (seen_in o.try) begun.spoiled before.op entries after.job next
   tells = job_tells known.nodes before.failed (since_begin es) (seen_in o.try) begun.spoiled before.op entries known kept refl causes worns left next begun.job after.job is wants shows.1 shows.0
 
@@ -450,13 +453,13 @@ module _ (es : List Entry) (known : Known) (before begun after : Work) (next : N
   open_after shown =
       open_as es known before after o op failed asked_after
       (subst (λ (b : Bool). ScanShown (since_begin es) b before.op after.job) (sym spoiled) shown.1)
-      (subst (λ (c : Option (List CatEntry)). MatchOption c (IsStartable before.op after.job) (λ x. ReadsShow before.failed (seen_in o.try) before.op x after.job)) (sym kept) shown.0)
+      (subst (λ (c : Option (List CatEntry)). MatchOption c (IsStartable before.op after.job) (λ x. ReadsShow before.failed (seen_in o.try) before.op x after.job)) (sym kept) shown.0) last
 
-  told_after : NextTold known.nodes after.failed (since_begin es) (seen_in o.try) after.op entries next
+  told_after : NextTold known.nodes after.failed (since_begin es) (seen_in o.try) after.op entries after.job next
       × PeeksAs after.failed after.job next
   told_after = (
-    subst (λ (x : Op). NextTold known.nodes after.failed (since_begin es) (seen_in o.try) x entries next) (sym op)
-        (subst (λ (n : ℕ). NextTold known.nodes n (since_begin es) (seen_in o.try) before.op entries next) (sym failed) tells.told),
+    subst (λ (x : Op). NextTold known.nodes after.failed (since_begin es) (seen_in o.try) x entries after.job next) (sym op)
+        (subst (λ (n : ℕ). NextTold known.nodes n (since_begin es) (seen_in o.try) before.op entries after.job next) (sym failed) tells.told),
     subst (λ (n : ℕ). PeeksAs n after.job next) (sym failed) tells.peeks,
   )
 
@@ -464,7 +467,7 @@ module _ (es : List Entry) (known : Known) (before begun after : Work) (next : N
   goes_tells = record {
     open_still = by next tells.shown;
     asked = by_asked next asked_for;
-    told = by_next next (subst (λ (c : Option (List CatEntry)). MatchOption c ⊥ (λ x. NextTold known.nodes after.failed (since_begin es) (seen_in o.try) after.op x next × PeeksAs after.failed after.job next)) (sym kept) told_after);
+    told = by_next next (subst (λ (c : Option (List CatEntry)). MatchOption c ⊥ (λ x. NextTold known.nodes after.failed (since_begin es) (seen_in o.try) after.op x after.job next × PeeksAs after.failed after.job next)) (sym kept) told_after);
   }
     where
       by : (n : Next) → ShownStill before.failed (since_begin es) (seen_in o.try) begun.spoiled before.op entries after.job n
@@ -487,7 +490,7 @@ module _ (es : List Entry) (known : Known) (before begun after : Work) (next : N
       by_asked (Next.Fails cause) told = told
 
       by_next : (n : Next)
-          → MatchOption known.catalog ⊥ (λ x. NextTold known.nodes after.failed (since_begin es) (seen_in o.try) after.op x n × PeeksAs after.failed after.job n)
+          → MatchOption known.catalog ⊥ (λ x. NextTold known.nodes after.failed (since_begin es) (seen_in o.try) after.op x after.job n × PeeksAs after.failed after.job n)
           → ToldUnless known after (since_begin es) o.try n
       by_next Next.Catalog told = tt
       by_next (Next.Answers answer) told = told
@@ -505,8 +508,9 @@ first_try known failed seens op entries kept reads =
 pub advance_tells : (es : List Entry) (old known : Known) (before after : Work) (next : Next)
     → (keeps : KeepsKnown old known) → IsJobOf old before → KeepsOp before after
     → WantsNext known before after next → (causes : TriesShowCauses) → WornPagesShow
-    → FreeSlotsAreLeft → (o : IsOpen es known before) → AdvanceTells es known after before o.trying.before o.try next
-advance_tells es old known before after next keeps is op wants causes worns left o =
+    → FreeSlotsAreLeft → JobIsLast es after.job → (o : IsOpen es known before)
+    → AdvanceTells es known after before o.trying.before o.try next
+advance_tells es old known before after next keeps is op wants causes worns left last o =
     by (asks_or_goes old known before after next keeps is wants)
   where
     -- what its job has read is shown, also where that has just begun
@@ -560,7 +564,7 @@ advance_tells es old known before after next keeps is op wants causes worns left
         (shows_by on entries kept) (asked_by_kept on entries kept)
         (subst (λ (x : Op). IsJobIn known x on.begun.job) on.keeps.0 on.right) on.goes.0
         (subst (λ (n : ℕ). JobWants known (is_later n) before.op on.begun.job after.job next) on.keeps.1
-        (subst (λ (x : Op). JobWants known (is_later on.begun.failed) x on.begun.job after.job next) on.keeps.0 on.goes.1))
+        (subst (λ (x : Op). JobWants known (is_later on.begun.failed) x on.begun.job after.job next) on.keeps.0 on.goes.1)) last
 
     by_catalog : (on : WentOn known before after next) (c : Option (List CatEntry)) → known.catalog ≡ c
         → AdvanceTells es known after before o.trying.before o.try next

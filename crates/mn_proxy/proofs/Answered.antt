@@ -10,10 +10,11 @@ use Rattle.mn_world.specs.Answers.{IsSettled, IsShownFor, ShowsAnswer}
 use Rattle.mn_world.specs.Calls.{Begun, begun_in, begun_of, issue_in, since_begin, under_way, under_way_after}
 use Rattle.mn_world.specs.Clients.{last_number}
 use Rattle.mn_proxy.specs.declared.step.ProxyStep.TheVariants as steps
-use Rattle.mn_proxy.specs.Agrees.{Enters, IsOwn, IsUnderWay, MayStep, MayWant}
+use Rattle.mn_proxy.specs.Agrees.{Enters, IsOwnLast, IsUnderWay, MayStep, MayWant}
 use Rattle.mn_proxy.specs.State.{ProxyState}
 use Rattle.mn_proxy.specs.Turns.{IsOver}
 use Rattle.mn_proxy.proofs.Issues.{fresh_answered, own_recovers_none}
+use Rattle.mn_proxy.proofs.Last.{kept_still_last, own_gives_none}
 use Rattle.mn_proxy.proofs.Opens.{own_on}
 
 -- the operation under way is the last one that was begun
@@ -55,13 +56,15 @@ may_answer es p op answer (number, of) settled shown = (
 )
 
 -- with the answer in the list what the proxy keeps stays
-pub answered_own : (es new : List Entry) (p : ProxyState) (answer : Answer) → IsOwn es p
-    → Enters es p (steps.Done answer) new → IsOwn new p
-answered_own es new p answer own (e, entry, is) =
-    subst (λ (l : List Entry). IsOwn l p) (sym is)
-    (own_on e es p own (ap issue_in entry.what_is)
-    (fresh_answered p.client p.run e es (last_number (begun_of es)) answer own.fresh entry.node entry.what_is)
-    (own_recovers_none e es entry.node own.recovers))
+pub answered_own : (es new : List Entry) (p : ProxyState) (answer : Answer) → IsOwnLast es p
+    → Enters es p (steps.Done answer) new → IsOwnLast new p
+answered_own es new p answer (own, last) (e, entry, is) =
+    subst (λ (l : List Entry). IsOwnLast l p) (sym is) (
+      own_on e es p own (ap issue_in entry.what_is)
+          (fresh_answered p.client p.run e es (last_number (begun_of es)) answer own.fresh entry.node entry.what_is)
+          (own_recovers_none e es entry.node own.recovers),
+      kept_still_last e es p.known (own_gives_none e entry.node) last,
+    )
 
 -- and no operation is under way
 pub answered_idle : (es new : List Entry) (p : ProxyState) (answer : Answer)

@@ -33,7 +33,7 @@ use Rattle.mn_world.specs.Answers.{IsPageAtFault, MeetsFault, ReachesAddr, Shows
 use Rattle.mn_world.specs.Clients.{is_plan}
 use Rattle.mn_world.specs.Growth.{node_no}
 use Rattle.mn_world.specs.Needs.{NeedsSlots, ReadsTree, WritesOld}
-use Rattle.mn_world.specs.Places.{Place, catalog_node, entry_place, page_place}
+use Rattle.mn_world.specs.Places.{Place, catalog_node, entry_place, number_size, page_place}
 use Rattle.mn_world.specs.Planned.{IsPlanned}
 use Rattle.mn_world.specs.Shown.{Seen, SeesCatalog}
 use Rattle.mn_world.proofs.Plans.Pieces.{bytes_in-skip, length-pieces}
@@ -41,6 +41,7 @@ use Rattle.mn_world.proofs.Plans.Spaces.{entry_sizes}
 use Rattle.mn_txn.specs.Children.{ChildTry, branch_writes, child_reads, snapshot_writes}
 use Rattle.mn_txn.specs.ChildPlan.{IsVersion, IsWornEntry, IsWornRoot, child_try}
 use Rattle.mn_txn.specs.Tries.{FreeSlotsAreLeft}
+use Rattle.mn_txn.specs.declared.image.Image.{Image}
 use Rattle.mn_work.specs.declared.child.Child.{Child}
 use Rattle.mn_work.specs.declared.known.Known.{Known}
 use Rattle.mn_work.specs.declared.next.Next.{Next}
@@ -50,12 +51,13 @@ use Rattle.mn_proxy.specs.Agrees.{AreComparesShown}
 use Rattle.mn_work.specs.Children.{CountsOn, EndsBy, IsAnsweredAs, IsOnItsWay, IsPlanFor, IsUnderWay, IsWanted, IsWornFor}
 use Rattle.mn_work.specs.Children.{KeepsTry, MakesChild, SameButCounts, TakesRoot, TakesRootBytes, UnlessFails, WantsCount, WantsEnd, WantsPage, may_copy}
 use Rattle.mn_proxy.specs.Jobs.{AreCounted, IsBrought, IsOfTry, ReadsShow}
+use Rattle.mn_work.specs.Last.{PageIsLast}
 use Rattle.mn_work.specs.Seen.{SpellsNone}
 use Rattle.mn_work.specs.Walks.{Admits, IfLater, is_later, seen_page}
 use Rattle.mn_work.specs.Works.{AsksPageFor, ChildTakes, ChildWants, IsJobIn, IsNewChild, JobCounts, JobTakes, JobWants}
 use Rattle.mn_work.proofs.Attempts.{of_kept}
 use Rattle.mn_work.proofs.Compares.{items_plan, of_items, within_is}
-use Rattle.mn_proxy.proofs.Shown.{AnswerShown, TakenShown, WantShown, bad_count, counted_next, entry_shown, free_shown, front_shown, later_is, none_counted, not_later, root_reached, seen_count, whole_shown}
+use Rattle.mn_proxy.proofs.Shown.{AnswerShown, TakenShown, WantShown, bad_count, begin_shown, counted_next, entry_shown, free_shown, front_shown, later_is, none_counted, not_later, root_reached, seen_count, whole_shown}
 use Rattle.mn_work.proofs.Walks.{at_fault, bad_page, either, no_node, no_page}
 
 -- Room for a version
@@ -278,6 +280,13 @@ module _ (nodes : ℕ) (seens : List Seen) (op : Op) (entries : List CatEntry) w
 
   -- What it wants
 
+  -- what shows images shows how they begin
+  begins_shown : (reads : List Image) → AllByRecursion (λ i. ShowsBytes seens i.node i.start i.bytes) reads
+      → AllByRecursion (λ i. ShowsBytes seens i.node i.start (take number_size i.bytes)) reads
+  begins_shown [] all = tt
+  begins_shown (i ∷ reads) all =
+      (begin_shown seens i.node i.start number_size i.bytes all.0, begins_shown reads all.1)
+
   -- its plan compares what was read
   plan_read : (o : Op) (c : Child) (seen : Seen) (mini : Mini) (root : Page) (slot : Addr)
       → Contains seens seen → SeesCatalog seen entries → MakesChild o
@@ -285,15 +294,15 @@ module _ (nodes : ℕ) (seens : List Seen) (op : Op) (entries : List CatEntry) w
       → ShowsBytes seens slot.node count_start (big_bytes count_size slot.slot)
       → IsPlanFor nodes entries o root slot mini → AreComparesShown seens mini
   plan_read (Snapshot name child) c seen mini root slot has sees makes admits brought count plan n start bytes there =
-      of_items (λ i. ShowsBytes seens i.node i.start i.bytes) (child_reads its) (snapshot_writes its)
-      (compares_shown nodes seens (Snapshot name child) entries c seen has sees makes admits root slot child plan.version plan.entry plan.is brought count)
+      of_items (λ n start bytes. ShowsBytes seens n start bytes) (child_reads its) (snapshot_writes its)
+      (begins_shown (child_reads its) (compares_shown nodes seens (Snapshot name child) entries c seen has sees makes admits root slot child plan.version plan.entry plan.is brought count))
       n start bytes (subst (λ (x : Mini). Contains x.items (Compare n start bytes)) plan.items there)
     where
       its : ChildTry
       its = child_try entries nodes name child plan.version plan.entry root slot
   plan_read (Branch name child) c seen mini root slot has sees makes admits brought count plan n start bytes there =
-      of_items (λ i. ShowsBytes seens i.node i.start i.bytes) (child_reads its) (branch_writes its)
-      (compares_shown nodes seens (Branch name child) entries c seen has sees makes admits root slot child plan.version plan.entry plan.is brought count)
+      of_items (λ n start bytes. ShowsBytes seens n start bytes) (child_reads its) (branch_writes its)
+      (begins_shown (child_reads its) (compares_shown nodes seens (Branch name child) entries c seen has sees makes admits root slot child plan.version plan.entry plan.is brought count))
       n start bytes (subst (λ (x : Mini). Contains x.items (Compare n start bytes)) plan.items there)
     where
       its : ChildTry
@@ -416,7 +425,7 @@ module _ (nodes : ℕ) (seens : List Seen) (op : Op) (entries : List CatEntry) w
     page_wanted : (failed : ℕ) (d : Child) (next : Next) → MakesChild op
         → Admits entries op d.version d.root → WantsPage known (is_later failed) d next
         → ReadsShow failed seens op entries (at.Child d)
-        → WantShown nodes failed seens op entries next
+        → WantShown nodes failed seens op entries (at.Child d) next
     page_wanted failed d (Next.Page addr peek) makes admits wants shows = tt
     page_wanted failed d (Next.Fails None) makes admits wants shows = tt
     page_wanted failed d (Next.Fails (Some cause)) makes admits wants shows =
@@ -428,7 +437,7 @@ module _ (nodes : ℕ) (seens : List Seen) (op : Op) (entries : List CatEntry) w
     page_wanted failed d (Next.Answers answer) makes admits wants shows = absurd wants
 
     count_wanted : (failed : ℕ) (d : Child) (next : Next) → WantsCount known (is_later failed) d next
-        → WantShown nodes failed seens op entries next
+        → WantShown nodes failed seens op entries (at.Child d) next
     count_wanted failed d (Next.Count node peek) wants = tt
     count_wanted failed d (Next.Page addr peek) wants = absurd wants
     count_wanted failed d (Next.Fails cause) wants = absurd wants
@@ -441,10 +450,12 @@ module _ (nodes : ℕ) (seens : List Seen) (op : Op) (entries : List CatEntry) w
         → ((answer : Answer) → next ≡ Next.Answers answer → IsUnderWay nodes entries op d)
         → EndsBy nodes entries (is_later failed) op d next
         → ReadsShow failed seens op entries (at.Child d)
-        → WantShown nodes failed seens op entries next
+        → WantShown nodes failed seens op entries (at.Child d) next
     end_wanted left failed d (Next.Plan mini reply) makes admits way ends shows =
         let made = plan_made op ends.1.root (next_slot d.counts.items) mini ends.1.plan in (
-          λ es. subst (λ (r : Reply). IsPlanned es (heads_in entries) op mini r) (sym ends.0) (ends.1.planned.planned es),
+          λ es catalog last. subst (λ (r : Reply). IsPlanned es (heads_in entries) op mini r) (sym ends.0)
+              (ends.1.planned.planned es d.version d.root admits catalog
+              (subst (λ (o : Option Page). MatchOption o ⊤ (PageIsLast es d.root)) ends.1.page last)),
           plan_shown failed d mini makes admits ends.1 shows,
           made.0,
           made.1,
@@ -461,7 +472,7 @@ module _ (nodes : ℕ) (seens : List Seen) (op : Op) (entries : List CatEntry) w
     pub wants_shown : (left : FreeSlotsAreLeft) (failed : ℕ) (c d : Child) (next : Next) → IsOnItsWay known op c
         → ChildWants known (is_later failed) op c d next
         → ReadsShow failed seens op entries (at.Child c)
-        → WantShown nodes failed seens op entries next
+        → WantShown nodes failed seens op entries (at.Child d) next
     wants_shown left failed c d next before w shows = by w.wants
       where
         way : IsUnderWay nodes entries op c
@@ -479,7 +490,7 @@ module _ (nodes : ℕ) (seens : List Seen) (op : Op) (entries : List CatEntry) w
 
         by : WantsPage known (is_later failed) d next ⊎ WantsCount known (is_later failed) d next
             ⊎ WantsEnd known (is_later failed) op d next
-            → WantShown nodes failed seens op entries next
+            → WantShown nodes failed seens op entries (at.Child d) next
         by (inl page) = page_wanted failed d next way.makes admits page after
         by (inr (inl count)) = count_wanted failed d next count
         by (inr (inr ends)) =
@@ -635,7 +646,7 @@ module _ (nodes failed : ℕ) (seens : List Seen) (op : Op) (entries : List CatE
           → JobWants known (is_later failed) op (at.Child c) (at.Child d) next
           → ReadsShow failed seens op entries (at.Child c)
           → ReadsShow failed seens op entries (at.Child d)
-          × WantShown nodes failed seens op entries next
+          × WantShown nodes failed seens op entries (at.Child d) next
       child_wants_for left next wants shows = (
         wants_reads nodes seens op entries known kept of failed c d next wants shows,
         wants_shown nodes seens op entries known kept of left failed c d next way wants shows,

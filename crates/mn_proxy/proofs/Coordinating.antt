@@ -28,8 +28,9 @@ use Rattle.mn_world.specs.Clients.{is_over}
 use Rattle.mn_world.specs.Places.{Place}
 use Rattle.mn_world.specs.Planned.{HasPlans}
 use Rattle.mn_world.specs.Shown.{seen_by}
-use Rattle.mn_coord.specs.Coordination.{Coordination, IsSoundStep as IsSoundCoordStep, is_stopped_at_last, participant, stage_of, step_of, try_request}
+use Rattle.mn_coord.specs.Coordination.{Coordination, IsSoundStep as IsSoundCoordStep, is_stopped_at_last, participant, stage_in, stage_of, step_at, step_of, try_request}
 use Rattle.mn_coord.specs.Legal.{Agrees as CoordAgrees, MayMake}
+use Rattle.mn_coord.specs.declared.stage.Stage.{Stage}
 use Rattle.mn_coord.specs.declared.stage.Stage.TheVariants as At
 use Rattle.mn_coord.specs.declared.step.CoordStep.TheVariants.{Send, Abandon, Committed, Failed, Doubt}
 use Rattle.mn_coord.proofs.Legal.{abandon_at}
@@ -45,7 +46,7 @@ use Rattle.mn_proxy.specs.declared.step.ProxyStep.TheVariants as steps
 use Rattle.mn_work.specs.declared.work.Job.{Job}
 use Rattle.mn_work.specs.declared.work.Job.TheVariants as at
 use Rattle.mn_work.specs.declared.work.Work.{Work}
-use Rattle.mn_proxy.specs.Agrees.{Agrees, AreOverNodes, HasRead, IsMadeFor, IsOwn, IsUnderWay, MayWant}
+use Rattle.mn_proxy.specs.Agrees.{Agrees, AreOverNodes, HasRead, IsMadeFor, IsOwn, IsOwnLast, IsUnderWay, KeptIsLast, MayWant}
 use Rattle.mn_proxy.specs.Agrees.{IsAtRest, IsPeekOf, IsReadOf, MayPeekFor}
 use Rattle.mn_proxy.specs.Agrees.{MiniAgrees, MiniFailed, MiniGoesOn, PeekedAgrees, ReadGoesOn}
 use Rattle.mn_proxy.specs.Issues.{AreClosed}
@@ -59,6 +60,7 @@ use Rattle.mn_work.specs.Works.{IsJobIn, IsStartable, retried_job}
 use Rattle.mn_proxy.proofs.Answered.{answered_own, may_answer, may_want}
 use Rattle.mn_proxy.proofs.Feeding.{failed_on, id_issued, later_told, mini_on, mini_same, own_as, read_few}
 use Rattle.mn_proxy.proofs.Issues.{IsLater, abandoned_later, called_later, closed_are_given_up, closed_are_settled, closed_plan, closed_read, closed_with, ended_given_up, ended_settled, fresh_abandoned, last_tid, own_calls_none, own_recovers_none, own_tries_none}
+use Rattle.mn_proxy.proofs.Last.{own_gives_none}
 use Rattle.mn_proxy.proofs.Opens.{own_on, under_way_still}
 use Rattle.mn_proxy.proofs.Retrying.{shown_again}
 
@@ -81,6 +83,27 @@ fails_refused n done told decided e = all (nat_lt done n) (nat_lt 1 n && nat_lt 
     all true b f = absurd cc
     all false true f = absurd cc
     all false false f = absurd cc
+
+doubts_refused : (n done : ℕ) (told : Bool) (decided : ℕ)
+    → stage_of n done None told decided ≡ At.Doubt → ⊥
+doubts_refused n done told decided e = all (nat_lt done n) (nat_lt 1 n && nat_lt decided n) e
+  where
+    all : (a b : Bool) → (if a then At.Ask else (if b then At.Commit else At.Committed)) ≡ At.Doubt → ⊥
+    all true b f = absurd cc
+    all false true f = absurd cc
+    all false false f = absurd cc
+
+doubted_at : (c : Coordination) (node : NodeNo) → step_of c ≡ Doubt node → stage_in c ≡ At.Doubt
+doubted_at c node step = by (stage_in c) refl step
+  where
+    by : (stage : Stage) → stage_in c ≡ stage → step_at c stage ≡ Doubt node → stage_in c ≡ At.Doubt
+    by At.Ask s f = absurd cc
+    by At.Commit s f = absurd cc
+    by At.Abandon s f = absurd cc
+    by At.Cancel s f = absurd cc
+    by At.Committed s f = absurd cc
+    by At.Failed s f = absurd cc
+    by At.Doubt s f = s
 
 commits_unrefused : (n done : ℕ) (refused : Option NodeReply) (told : Bool) (decided : ℕ)
     → stage_of n done refused told decided ≡ At.Committed → (refused ≡ None) × (n ≤ done)
@@ -192,6 +215,7 @@ mini_abandons es p w tid c d purpose is step own m may agrees = (
           (subst (λ (o : Option NodeReply). stage_of (length (participants_of c.mini)) c.done o c.told c.decided ≡ At.Abandon) unrefused (abandon_at c step)))
           (λ reply. failed_on es e p.known w c reply later.goes
           (ap (flat_map (λ (k : Call). seen_by k.node k.request k.reply)) (own_calls_none e none))
+          (own_gives_none e none)
           (ap (list_all (λ (k : Call). is_any_decide k.request)) (own_calls_none e none))
           (ap (list_all (λ (k : Call). not (is_refusal k.reply))) (own_calls_none e none))) m.goes)),
     )
@@ -252,6 +276,13 @@ read_ended es p w tid c purpose own m step read few goes = record {
     brought = subst (λ (done : ℕ). ReadGoesOn es p.known w purpose done c.reads) one
         (subst (λ (o : Option NodeReply). MatchOption o (ReadGoesOn es p.known w purpose c.done c.reads) (MiniFailed es p.known w c)) facts.0 goes)
 
+-- a plan that nothing refused
+plan_kept : (es : List Entry) (known : Known) (w : Work) (c : Coordination) (reply : Reply)
+    → MatchOption c.refused (MiniGoesOn es known w c (by.Plan reply)) (MiniFailed es known w c)
+    → c.refused ≡ None → KeptIsLast es known
+plan_kept es known w c reply goes none =
+    (subst (λ (o : Option NodeReply). MatchOption o (MiniGoesOn es known w c (by.Plan reply)) (MiniFailed es known w c)) none goes).0.last.0
+
 -- it is committed
 pub mini_commits : (es : List Entry) (p : ProxyState) (w : Work) (tid : Tid) (c : Coordination)
     (purpose : Purpose) → IsOwn es p → MiniAgrees es p.known w tid c purpose → step_of c ≡ Committed
@@ -275,6 +306,8 @@ mini_commits es p w tid c (by.Plan reply) own m step =
         m.made.1,
         subst (λ (t : Tid). all_done es (issue_under t c) ≡ true) m.id law.0,
       ),
+      plan_kept es p.known w c reply m.goes
+          (commits_unrefused (length (participants_of c.mini)) c.done c.refused c.told c.decided (committed_at c step)).0,
     )
 
 -- how far a scan has come stays, where it is tried again
@@ -446,6 +479,23 @@ mini_fails es p w tid c purpose node own m waits step = by c.refused refl
     by None is = tt
     by (Some reply) is = refused_by es p w tid c purpose node reply own m waits step is
 
+-- where it was refused, what is kept was shown last
+refused_kept : (es : List Entry) (known : Known) (w : Work) (c : Coordination) (purpose : Purpose)
+    → MatchOption c.refused (MiniGoesOn es known w c purpose) (MiniFailed es known w c)
+    → (c.refused ≡ None → ⊥) → KeptIsLast es known
+refused_kept es known w c purpose goes some = by c.refused some goes
+  where
+    by : (o : Option NodeReply) → (o ≡ None → ⊥)
+        → MatchOption o (MiniGoesOn es known w c purpose) (MiniFailed es known w c) → KeptIsLast es known
+    by None none is = absurd (none refl)
+    by (Some reply) none is = is.4
+
+pub fails_kept : (es : List Entry) (known : Known) (w : Work) (tid : Tid) (c : Coordination)
+    (purpose : Purpose) (node : NodeNo) → MiniAgrees es known w tid c purpose → step_of c ≡ Failed node
+    → KeptIsLast es known
+fails_kept es known w tid c purpose node m step =
+    refused_kept es known w c purpose m.goes (λ none. refused_some c node step none)
+
 -- so the operation may be answered
 pub fails_over : (es : List Entry) (p : ProxyState) (w : Work) (tid : Tid) (c : Coordination)
     (purpose : Purpose) (node : NodeNo) → IsOwn es p → MiniAgrees es p.known w tid c purpose
@@ -468,13 +518,18 @@ mini_doubts es p w tid c purpose node own m step = (
     refl,
     subst (λ (t : Tid). list_any (is_doubt_cause node t) (calls_of (since_begin es)) ≡ true) m.id (doubt_is_shown es c node m.coordinates step),
   ),
-  λ new entered. answered_own es new p (answers.InDoubt tid node) own entered,
+  λ new entered. answered_own es new p (answers.InDoubt tid node) (own, refused_kept es p.known w c purpose m.goes some) entered,
 )
+  where
+    some : c.refused ≡ None → ⊥
+    some none =
+        doubts_refused (length (participants_of c.mini)) c.done c.told c.decided
+        (subst (λ (o : Option NodeReply). stage_of (length (participants_of c.mini)) c.done o c.told c.decided ≡ At.Doubt) none (doubted_at c node step))
 
 -- Answers
 
 -- it is down
-pub down_answered : (es : List Entry) (p : ProxyState) (op : Op) (node : NodeNo) → IsOwn es p
+pub down_answered : (es : List Entry) (p : ProxyState) (op : Op) (node : NodeNo) → IsOwnLast es p
     → IsDown es op node → TurnAgrees es p (turns.Ends (answers.Down node))
 down_answered es p op node own (over, cause) = (
   may_answer es p op (answers.Down node) over.of over.settled (over.given_up, cause),
@@ -485,9 +540,9 @@ down_answered es p op node own (over, cause) = (
 pub plan_answered : (es : List Entry) (p : ProxyState) (w : Work) (reads : List (List (List ℕ)))
     (reply : Reply) → IsOwn es p → IsCommitted es p.known w reads (by.Plan reply)
     → TurnAgrees es p (turns.Ends (answers.Replied reply))
-plan_answered es p w reads reply own (of, settled, last) = (
+plan_answered es p w reads reply own (of, settled, last, kept) = (
   may_answer es p w.op (answers.Replied reply) of settled (inl last),
-  λ new entered. answered_own es new p (answers.Replied reply) own entered,
+  λ new entered. answered_own es new p (answers.Replied reply) (own, kept) entered,
 )
 
 -- a read is under way with its reply
@@ -500,7 +555,7 @@ read_under_way es known w purpose bytes h =
     by : IsReadOf h.e h.place bytes
         ⊎ (IsPeekOf h.e h.place bytes × (w.failed ≡ 0) × MayPeekFor w.job purpose) → IsLater h.e.what
     by (inl (tid, long, call)) = called_later h.e h.place.node (Ask.Exec tid (Bare.Read h.place.start h.place.length ∷ [])) (Say.Done (bytes ∷ [])) call
-    by (inr (call, first, may)) = called_later h.e h.place.node (Ask.Peek h.place.start h.place.length) (Say.Peeked bytes) call
+    by (inr (peeked, first, may)) = called_later h.e h.place.node (Ask.Peek h.place.start h.place.length) (Say.Peeked bytes) peeked.1
 
 -- the operation may be answered where all is closed
 pub closed_over : (es : List Entry) (op : Op) → IsUnderWay es op → AreClosed (since_begin es)
@@ -532,15 +587,23 @@ pub peeked_under_way : (es : List Entry) (known : Known) (w : Work) (place : Pla
     → IsUnderWay es w.op
 peeked_under_way es known w place purpose (Say.Peeked bytes) is = read_under_way es known w purpose bytes is
 peeked_under_way es known w place purpose Say.Down is = is.0
-peeked_under_way es known w place purpose (Say.Done reads) is = is
-peeked_under_way es known w place purpose (Say.BadLock s k h) is = is
-peeked_under_way es known w place purpose (Say.BadCompare i found) is = is
-peeked_under_way es known w place purpose Say.BadForced is = is
-peeked_under_way es known w place purpose (Say.Vote v) is = is
-peeked_under_way es known w place purpose Say.Decided is = is
-peeked_under_way es known w place purpose (Say.Listed d) is = is
-peeked_under_way es known w place purpose Say.Stopped is = is
-peeked_under_way es known w place purpose Say.NoMemory is = is
+peeked_under_way es known w place purpose (Say.Done reads) is = is.0
+peeked_under_way es known w place purpose (Say.BadLock s k h) is = is.0
+peeked_under_way es known w place purpose (Say.BadCompare i found) is = is.0
+peeked_under_way es known w place purpose Say.BadForced is = is.0
+peeked_under_way es known w place purpose (Say.Vote v) is = is.0
+peeked_under_way es known w place purpose Say.Decided is = is.0
+peeked_under_way es known w place purpose (Say.Listed d) is = is.0
+peeked_under_way es known w place purpose Say.Stopped is = is.0
+peeked_under_way es known w place purpose Say.NoMemory is = is.0
+
+-- one that brought no bytes leaves what is kept as it was shown last
+pub peeked_kept : (es : List Entry) (known : Known) (w : Work) (place : Place) (purpose : Purpose)
+    (reply : NodeReply) → ((bytes : List ℕ) → reply ≡ Say.Peeked bytes → ⊥)
+    → PeekedAgrees es known w place purpose reply → KeptIsLast es known
+peeked_kept es known w place purpose (Say.Peeked bytes) other is = absurd (other bytes refl)
+peeked_kept es known w place purpose Say.Down other is = is.2
+peeked_kept es known w place purpose reply other is = is.1
 
 -- the bytes that it brought
 pub done_read : (es : List Entry) (known : Known) (w : Work) (reads : List (List (List ℕ)))
@@ -616,7 +679,7 @@ pub peeked_down : (es : List Entry) (p : ProxyState) (w : Work) (place : Place) 
     → IsOwn es p → PeekedAgrees es p.known w place purpose Say.Down → AreClosed (since_begin es)
     → TurnAgrees es p (turns.Ends (answers.Down place.node))
 peeked_down es p w place purpose own is closed =
-    down_answered es p w.op place.node own (closed_over es w.op is.0 closed, is.1)
+    down_answered es p w.op place.node (own, is.2) (closed_over es w.op is.0 closed, is.1)
 
 -- a first try issued for any number of nodes
 pub first_over : (nodes count : ℕ) (now : List Entry) → count ≡ 0 → AreOverNodes nodes count now

@@ -37,7 +37,7 @@ use Rattle.mn_world.specs.Answers.{nodes_of, part_compares}
 use Rattle.mn_world.specs.Calls.{Call, Issued, call_in, calls_of, is_done, issue_in, issues_of, since_begin}
 use Rattle.mn_world.specs.Clients.{is_plan}
 use Rattle.mn_world.specs.Places.{Place, catalog_place}
-use Rattle.mn_world.specs.Shown.{Seen, seen_at, seen_by, seen_in}
+use Rattle.mn_world.specs.Shown.{Seen, items_shown, seen_at, seen_by, seen_in, shown_by}
 use Rattle.mn_world.proofs.Bytes.Prepares.{read_alone}
 use Rattle.mn_coord.specs.Coordination.{Coordination, after_reply, fed, fed_at, is_stopped_at_last, participant, stage_in, stage_of, step_at, step_of, try_request}
 use Rattle.mn_coord.specs.Legal.{Agrees as CoordAgrees, IsAnswered}
@@ -56,7 +56,7 @@ use Rattle.mn_work.specs.declared.work.Work.{Work}
 use Rattle.mn_proxy.specs.Agrees.{Agrees, ErrandAgrees, HasOut, HasOutIn, WorksBy}
 use Rattle.mn_proxy.specs.Agrees.{AreComparesShown, AreOverNodes, IsAtRest, IsMadeFor}
 use Rattle.mn_work.specs.Works.{HasBegun}
-use Rattle.mn_proxy.specs.Agrees.{IsOpen, IsOwn, IsPlaceFor, IsUnderWay, JobAsked, MayPeekFor, MiniAgrees}
+use Rattle.mn_proxy.specs.Agrees.{IsOpen, IsOwn, IsPlaceFor, IsUnderWay, JobAsked, KeptIsLast, MayPeekFor, MiniAgrees}
 use Rattle.mn_proxy.specs.Agrees.{MiniFailed, MiniGoesOn, PeekedAgrees, ReadGoesOn}
 use Rattle.mn_proxy.specs.Issues.{are_closed}
 use Rattle.mn_proxy.specs.Jobs.{ScanShown}
@@ -70,6 +70,7 @@ use Rattle.mn_work.specs.Works.{AsksCountFor, AsksPageFor, IsStartable}
 use Rattle.mn_work.specs.Walks.{IfLater}
 use Rattle.mn_proxy.proofs.Issues.{GoesOn, IsLater, TriesNone, called_later, closed_later, closed_since, earlier_differ, fresh_peeked, fresh_step, last_stays, last_tid, no_issue, peek_recovers_none, peek_tries_none, since_on, step_recovers_none, step_tries_none}
 use Rattle.mn_proxy.proofs.Issuing.{own_with}
+use Rattle.mn_proxy.proofs.Last.{kept_still_last, shown_at}
 use Rattle.mn_proxy.proofs.Opens.{IsQuiet, asked_on, open_on, own_on, scan_shown_quiet, under_way_still}
 use Rattle.mn_proxy.proofs.Tries.{NoPeek, decided_on, refused_on}
 use Rattle.mn_work.proofs.Works.{startable}
@@ -113,6 +114,12 @@ call_seen e n request reply a none =
     ap (flat_map (λ (c : Call). seen_by c.node c.request c.reply)) a
     ∙ ap (λ (l : List Seen). l ++ []) none
 
+call_gives : (e : Entry) (n : NodeNo) (request : Request) (reply : NodeReply)
+    → IsAnswered e n request reply → shown_by n request reply ≡ [] → shown_at e ≡ []
+call_gives e n request reply a none =
+    ap (flat_map (λ (c : Call). shown_by c.node c.request c.reply)) a
+    ∙ ap (λ (l : List Seen). l ++ []) none
+
 -- a reply that isn't Done brings nothing
 undone_unseen : (n : NodeNo) (request : Request) (reply : NodeReply) → is_done reply ≡ false
     → seen_by n request reply ≡ []
@@ -127,6 +134,17 @@ undone_unseen n (Ask.Decide tid verdict) reply f = refl
 undone_unseen n (Ask.Force tid) reply f = refl
 undone_unseen n Ask.List reply f = refl
 undone_unseen n (Ask.Peek s k) reply f = refl
+
+-- nor does it give anything, unless it answers a Peek
+undone_ungiven : (n : NodeNo) (request : Request) (reply : NodeReply) → is_done reply ≡ false
+    → is_peek request ≡ false → shown_by n request reply ≡ []
+undone_ungiven n (Ask.Exec tid part) (Say.Done reads) f g = absurd cc
+undone_ungiven n (Ask.Exec tid part) reply f g = refl
+undone_ungiven n (Ask.Prepare tid ps part) reply f g = refl
+undone_ungiven n (Ask.Decide tid verdict) reply f g = refl
+undone_ungiven n (Ask.Force tid) reply f g = refl
+undone_ungiven n Ask.List reply f g = refl
+undone_ungiven n (Ask.Peek s k) reply f g = absurd cc
 
 -- a refusal isn't Done
 refusal_undone : (reply : NodeReply) → is_refusal reply ≡ true → is_done reply ≡ false
@@ -159,6 +177,20 @@ unread_unseen n tid [] reply f = refl
 unread_unseen n tid (Bare.Compare s b ∷ part) reply f = refl
 unread_unseen n tid (Bare.Write s b ∷ part) reply f = refl
 unread_unseen n tid (Bare.Read s k ∷ part) reply f = absurd cc
+
+-- nor gives anything
+items_ungiven : (n : NodeNo) (part : List PartItem) (reads : List (List ℕ)) → reads_none part ≡ true
+    → items_shown n part reads ≡ []
+unfolding reads_none is_no_read
+items_ungiven n [] reads f = refl
+items_ungiven n (Bare.Compare s b ∷ part) reads f = items_ungiven n part reads f
+items_ungiven n (Bare.Write s b ∷ part) reads f = items_ungiven n part reads f
+items_ungiven n (Bare.Read s k ∷ part) reads f = absurd cc
+
+unread_ungiven : (n : NodeNo) (tid : Tid) (part : List PartItem) (reply : NodeReply)
+    → reads_none part ≡ true → shown_by n (Ask.Exec tid part) reply ≡ []
+unread_ungiven n tid part (Say.Done reads) f = items_ungiven n part reads f
+unread_ungiven n tid part reply f = refl
 
 compares_unread : (n : NodeNo) (items : List Item) → reads_none (flat_map (compare_at n) items) ≡ true
 unfolding reads_none is_no_read
@@ -203,6 +235,15 @@ plan_unseen tid mini n reply plan = by (nat_eq (length (participants_of mini)) 1
     by : (b : Bool)
         → seen_by n (if b then Ask.Exec tid (part_of mini n) else Ask.Prepare tid (participants_of mini) (part_of mini n)) reply ≡ []
     by true = unread_unseen n tid (part_of mini n) reply (plan_part_unread mini n plan)
+    by false = refl
+
+plan_ungiven : (tid : Tid) (mini : Mini) (n : NodeNo) (reply : NodeReply) → is_plan mini.items ≡ true
+    → shown_by n (try_request tid mini n) reply ≡ []
+plan_ungiven tid mini n reply plan = by (nat_eq (length (participants_of mini)) 1)
+  where
+    by : (b : Bool)
+        → shown_by n (if b then Ask.Exec tid (part_of mini n) else Ask.Prepare tid (participants_of mini) (part_of mini n)) reply ≡ []
+    by true = unread_ungiven n tid (part_of mini n) reply (plan_part_unread mini n plan)
     by false = refl
 
 -- a try is no Peek
@@ -612,12 +653,17 @@ failed_now es e known w c reply asked a fits undone = (
       (call_seen e (participant c c.done) (try_request c.tid c.mini (participant c c.done)) reply a (undone_unseen (participant c c.done) (try_request c.tid c.mini (participant c c.done)) reply undone))
       asked.going.shows.0,
   undone,
+  kept_still_last e es known
+      (call_gives e (participant c c.done) (try_request c.tid c.mini (participant c c.done)) reply a
+      (undone_ungiven (participant c c.done) (try_request c.tid c.mini (participant c c.done)) reply undone (try_no_peek c.tid c.mini (participant c c.done))))
+      asked.going.last.0,
 )
 
 -- there was no memory to ask it: nothing entered the list
 pub unasked_now : (es : List Entry) (known : Known) (w : Work) (c : Coordination)
     → IsAskedBy es known w c → MiniFailed es known w c Say.NoMemory
-unasked_now es known w c asked = (tt, λ is. absurd cc, asked.going.shows.0, refl)
+unasked_now es known w c asked =
+    (tt, λ is. absurd cc, asked.going.shows.0, refl, asked.going.last.0)
 
 -- A participant that was done
 
@@ -677,6 +723,7 @@ done_quiet e w c reads plan call =
     record {
       goes = (called_later e n request (Say.Done reads) call).goes;
       reads = call_seen e n request (Say.Done reads) call (plan_unseen c.tid c.mini n (Say.Done reads) plan);
+      gives = call_gives e n request (Say.Done reads) call (plan_ungiven c.tid c.mini n (Say.Done reads) plan);
       good = call_all (λ (k : Call). not (is_refusal k.reply)) e n request (Say.Done reads) call refl;
       peeks = not_peeked w.failed e n request (Say.Done reads) call (try_no_peek c.tid c.mini n);
     }
@@ -704,18 +751,19 @@ match_map : (o : Option NodeReply) (A B : Type 0) (P Q : NodeReply → Type 0) �
 match_map None A B P Q f g m = f m
 match_map (Some reply) A B P Q f g m = g reply m
 
--- an entry that ends no try and reads nothing
+-- an entry that ends no try, reads nothing and gives nothing
 pub failed_on : (es : List Entry) (e : Entry) (known : Known) (w : Work) (c : Coordination)
-    (reply : NodeReply) → GoesOn e.what → seen_at e ≡ []
+    (reply : NodeReply) → GoesOn e.what → seen_at e ≡ [] → shown_at e ≡ []
     → list_all (λ k. is_any_decide k.request) (call_in e.node e.what) ≡ true
     → list_all (λ k. not (is_refusal k.reply)) (call_in e.node e.what) ≡ true
     → MiniFailed es known w c reply → MiniFailed (e ∷ es) known w c reply
-failed_on es e known w c reply goes none decides good (fits, refused, scan, undone) = (
+failed_on es e known w c reply goes none gives decides good (fits, refused, scan, undone, last) = (
   fits,
   λ is busy told. subst (λ (l : List Entry). WasRefused known.nodes w.op w.failed l busy) (sym (since_on e es goes))
       (decided_on known.nodes w.op w.failed (since_begin es) e busy (refused is busy told) decides good),
   scan_since e es w goes none scan,
   undone,
+  kept_still_last e es known gives last,
 )
 
 -- what fits a Decide is no refusal
@@ -792,7 +840,7 @@ decided_now es before e known w purpose c d n verdict reply a made tells call fi
     (subst (λ (q : Purpose). MatchOption c.refused (MiniGoesOn (e ∷ es) known w (record c { decided = c.decided + 1; asked = false }) q) (MiniFailed (e ∷ es) known w c)) (sym (plan.0).1)
     (match_map c.refused (PlanGoesOn es known w c.mini) (PlanGoesOn (e ∷ es) known w c.mini) (MiniFailed es known w c) (MiniFailed (e ∷ es) known w c)
     (plan_on es e known w c.mini quiet later.issues)
-    (λ r. failed_on es e known w c r later.goes none (call_all (λ (k : Call). is_any_decide k.request) e n (Ask.Decide c.tid verdict) reply call refl) good)
+    (λ r. failed_on es e known w c r later.goes none gives (call_all (λ (k : Call). is_any_decide k.request) e n (Ask.Decide c.tid verdict) reply call refl) good)
     (subst (λ (q : Purpose). MatchOption c.refused (MiniGoesOn es known w c q) (MiniFailed es known w c)) (plan.0).1 goes)))
   where
     later : IsLater e.what
@@ -801,6 +849,9 @@ decided_now es before e known w purpose c d n verdict reply a made tells call fi
     none : seen_at e ≡ []
     none = call_seen e n (Ask.Decide c.tid verdict) reply call refl
 
+    gives : shown_at e ≡ []
+    gives = call_gives e n (Ask.Decide c.tid verdict) reply call refl
+
     good : list_all (λ k. not (is_refusal k.reply)) (call_in e.node e.what) ≡ true
     good = call_all (λ (k : Call). not (is_refusal k.reply)) e n (Ask.Decide c.tid verdict) reply call (decide_fits c.tid verdict reply fits)
 
@@ -808,6 +859,7 @@ decided_now es before e known w purpose c d n verdict reply a made tells call fi
     quiet = record {
       goes = later.goes;
       reads = none;
+      gives = gives;
       good = good;
       peeks = not_peeked w.failed e n (Ask.Decide c.tid verdict) reply call refl;
     }
@@ -962,37 +1014,55 @@ peek_under_way : (es : List Entry) (e : Entry) (known : Known) (w : Work) (place
 peek_under_way es e known w place reply rest a =
     under_way_still e es w.op (called_later e place.node (Ask.Peek place.start place.length) reply a).goes rest.0.of
 
+-- one that gives nothing
+peek_kept : (es : List Entry) (e : Entry) (known : Known) (w : Work) (place : Place)
+    (reply : NodeReply) → IsAtRest es known w
+    → shown_by place.node (Ask.Peek place.start place.length) reply ≡ []
+    → IsAnswered e place.node (Ask.Peek place.start place.length) reply → KeptIsLast (e ∷ es) known
+peek_kept es e known w place reply rest none a =
+    kept_still_last e es known
+    (call_gives e place.node (Ask.Peek place.start place.length) reply a none) rest.0.last.0
+
+peek_nothing : (es : List Entry) (e : Entry) (known : Known) (w : Work) (place : Place)
+    (reply : NodeReply) → IsAtRest es known w
+    → shown_by place.node (Ask.Peek place.start place.length) reply ≡ []
+    → IsAnswered e place.node (Ask.Peek place.start place.length) reply
+    → IsUnderWay (e ∷ es) w.op × KeptIsLast (e ∷ es) known
+peek_nothing es e known w place reply rest none a =
+    (peek_under_way es e known w place reply rest a, peek_kept es e known w place reply rest none a)
+
 -- with its reply
 pub peek_answered : (es : List Entry) (e : Entry) (known : Known) (w : Work) (purpose : Purpose)
     (place : Place) (reply : NodeReply) → IsAtRest es known w → IsPlaceFor w.job purpose place
-    → w.failed ≡ 0 → MayPeekFor w.job purpose
+    → w.failed ≡ 0 → MayPeekFor w.job purpose → Fits (Ask.Peek place.start place.length) reply
     → IsAnswered e place.node (Ask.Peek place.start place.length) reply
     → PeekedAgrees (e ∷ es) known w place purpose reply
-peek_answered es e known w purpose place (Say.Peeked bytes) rest for first may a = record {
+peek_answered es e known w purpose place (Say.Peeked bytes) rest for first may fits a = record {
   e = e;
   before = es;
   split = refl;
   open_before = rest.0;
   place = place;
   is = for;
-  came = inr (a, first, may);
+  came = inr ((fits, a), first, may);
 }
-peek_answered es e known w purpose place Say.Down rest for first may a = (
+peek_answered es e known w purpose place Say.Down rest for first may fits a = (
   peek_under_way es e known w place Say.Down rest a,
   subst (λ (l : List Entry). list_any (is_down_cause place.node) (calls_of l) ≡ true)
       (sym (since_on e es (called_later e place.node (Ask.Peek place.start place.length) Say.Down a).goes))
       (call_any (is_down_cause place.node) e (since_begin es) place.node (Ask.Peek place.start place.length) Say.Down a
       (ap (λ b. b && true) (same_self place.node))),
+  peek_kept es e known w place Say.Down rest refl a,
 )
-peek_answered es e known w purpose place (Say.Done reads) rest for first may a = peek_under_way es e known w place (Say.Done reads) rest a
-peek_answered es e known w purpose place (Say.BadLock s k h) rest for first may a = peek_under_way es e known w place (Say.BadLock s k h) rest a
-peek_answered es e known w purpose place (Say.BadCompare i found) rest for first may a = peek_under_way es e known w place (Say.BadCompare i found) rest a
-peek_answered es e known w purpose place Say.BadForced rest for first may a = peek_under_way es e known w place Say.BadForced rest a
-peek_answered es e known w purpose place (Say.Vote v) rest for first may a = peek_under_way es e known w place (Say.Vote v) rest a
-peek_answered es e known w purpose place Say.Decided rest for first may a = peek_under_way es e known w place Say.Decided rest a
-peek_answered es e known w purpose place (Say.Listed d) rest for first may a = peek_under_way es e known w place (Say.Listed d) rest a
-peek_answered es e known w purpose place Say.Stopped rest for first may a = peek_under_way es e known w place Say.Stopped rest a
-peek_answered es e known w purpose place Say.NoMemory rest for first may a = peek_under_way es e known w place Say.NoMemory rest a
+peek_answered es e known w purpose place (Say.Done reads) rest for first may fits a = peek_nothing es e known w place (Say.Done reads) rest refl a
+peek_answered es e known w purpose place (Say.BadLock s k h) rest for first may fits a = peek_nothing es e known w place (Say.BadLock s k h) rest refl a
+peek_answered es e known w purpose place (Say.BadCompare i found) rest for first may fits a = peek_nothing es e known w place (Say.BadCompare i found) rest refl a
+peek_answered es e known w purpose place Say.BadForced rest for first may fits a = peek_nothing es e known w place Say.BadForced rest refl a
+peek_answered es e known w purpose place (Say.Vote v) rest for first may fits a = peek_nothing es e known w place (Say.Vote v) rest refl a
+peek_answered es e known w purpose place Say.Decided rest for first may fits a = peek_nothing es e known w place Say.Decided rest refl a
+peek_answered es e known w purpose place (Say.Listed d) rest for first may fits a = peek_nothing es e known w place (Say.Listed d) rest refl a
+peek_answered es e known w purpose place Say.Stopped rest for first may fits a = peek_nothing es e known w place Say.Stopped rest refl a
+peek_answered es e known w purpose place Say.NoMemory rest for first may fits a = peek_nothing es e known w place Say.NoMemory rest refl a
 
 -- The whole
 
@@ -1025,7 +1095,8 @@ answered_agrees es e p w (out.Peek place purpose) after node request reply own (
       (fresh_peeked p.client p.run e es place.node place.start place.length reply own.fresh call)
       (peek_recovers_none e es place.node place.start place.length reply call own.recovers)),
   subst (ErrandAgrees (e ∷ es) p.known w) (sym fed) (
-    peek_answered es e p.known w purpose (place_of place) reply rest for first may call,
+    peek_answered es e p.known w purpose (place_of place) reply rest for first may
+        (subst (λ (r : Request). Fits r reply) is fits) call,
     closed_later e es later (peek_tries_none e (issues_of (since_begin es)) place.node place.start place.length reply call) rest.1,
     first,
   ),
@@ -1067,7 +1138,7 @@ unanswered_agrees es p w (out.Peeked place said purpose) after reply own errands
     absurd fed
 unanswered_agrees es p w (out.Peek place purpose) after reply own (rest, for, first, may) sound none owes fed = (
   own_as es p w after own,
-  subst (ErrandAgrees es p.known w) (sym (fed ∙ ap (λ (r : NodeReply). out.Peeked place r purpose) none)) (rest.0.of, rest.1, first),
+  subst (ErrandAgrees es p.known w) (sym (fed ∙ ap (λ (r : NodeReply). out.Peeked place r purpose) none)) ((rest.0.of, rest.0.last.0), rest.1, first),
 )
 unanswered_agrees es p w (out.Mini tid c purpose) after reply own m sound none owes (d, is, takes) = (
   own_as es p w after own,

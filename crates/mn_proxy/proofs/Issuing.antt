@@ -35,7 +35,9 @@ use Rattle.mn_work.specs.declared.work.Job.{Job}
 use Rattle.mn_work.specs.declared.work.Job.TheVariants as at
 use Rattle.mn_work.specs.declared.work.Work.{Work}
 use Rattle.mn_proxy.specs.Agrees.{AreComparesShown, AreOverNodes, Agrees, BeginsNext, IsAtRest}
-use Rattle.mn_proxy.specs.Agrees.{IsMadeFor, IsOpen, IsOwn, IsOwnEntry, IsPlaceFor, JobAsked, MiniAgrees, MiniGoesOn, ReadGoesOn}
+use Rattle.mn_proxy.specs.Agrees.{IsMadeFor, IsOpen, IsOwn, IsOwnEntry, IsPlaceFor, JobAsked, KeptIsLast}
+use Rattle.mn_proxy.specs.Agrees.{MiniAgrees, MiniGoesOn, ReadGoesOn, WorksBy}
+use Rattle.mn_proxy.proofs.Last.{kept_still_last, own_gives_none}
 use Rattle.mn_proxy.specs.Issues.{are_closed, tid_of}
 use Rattle.mn_proxy.specs.Jobs.{ReadsShow, ScanShown}
 use Rattle.mn_proxy.specs.State.{ProxyState}
@@ -68,9 +70,9 @@ reads_at_start op seens None = tt
 reads_at_start op seens (Some entries) = refl
 
 -- nothing is read yet
-begins_open : (es : List Entry) (e : Entry) (number : ℕ) (op : Op) (known : Known)
-    → e.what ≡ Begin number op → IsOpen (e ∷ es) known (new_work op)
-begins_open es e number op known is = record {
+begins_open : (es : List Entry) (e : Entry) (number : ℕ) (op : Op) (known : Known) → e.node ≡ None
+    → e.what ≡ Begin number op → KeptIsLast es known → IsOpen (e ∷ es) known (new_work op)
+begins_open es e number op known node is last = record {
   of = (number, ap (λ (what : What). under_way_after what (under_way es)) is);
   try = [];
   trying = trying;
@@ -80,6 +82,7 @@ begins_open es e number op known is = record {
     subst (λ (l : List Entry). ScanShown l false op at.Start) (sym since) (scan_at_start op),
     reads_at_start op (seen_in []) known.catalog,
   );
+  last = (kept_still_last e es known (own_gives_none e node) last, tt);
 }
   where
     since : since_begin (e ∷ es) ≡ []
@@ -106,13 +109,13 @@ own_with es p work own = own_peeks es p p.peeks work own
 
 -- an operation begins
 pub begins_agree : (es : List Entry) (p : ProxyState) (op : Op) (e : Entry) (w : Work)
-    → w ≡ new_work op → Agrees es p → BeginsNext es p.client op e
+    → w ≡ new_work op → p.work ≡ None → Agrees es p → BeginsNext es p.client op e
     → Agrees (e ∷ es) (record p { peeks = PEEKS; work = Some (w, out.Nothing) })
-begins_agree es p op e w new agrees begins = (
+begins_agree es p op e w new idle agrees begins = (
   own_peeks (e ∷ es) p PEEKS (Some (w, out.Nothing))
       (own_on e es p own (ap issue_in is) (fresh_begun p.client p.run e es (last_number (begun_of es) + 1) op own.fresh begins.own.node is) (own_recovers_none e es begins.own.node own.recovers)),
   (
-    subst (IsOpen (e ∷ es) p.known) (sym new) (begins_open es e (last_number (begun_of es) + 1) op p.known is),
+    subst (IsOpen (e ∷ es) p.known) (sym new) (begins_open es e (last_number (begun_of es) + 1) op p.known begins.own.node is (subst (WorksBy es p) idle agrees.1).1),
     closed_none (e ∷ es) (since_begun e es (last_number (begun_of es) + 1) op is),
   ),
 )
@@ -182,6 +185,7 @@ issue_quiet : (failed : ℕ) (e : Entry) (tid : Tid) (mini : Mini) → e.node �
 issue_quiet failed e tid mini own is = record {
   goes = issue_goes_on e tid mini is;
   reads = ap (flat_map (λ (c : Call). seen_by c.node c.request c.reply)) (own_calls_none e own);
+  gives = own_gives_none e own;
   good = ap (list_all (λ (c : Call). not (is_refusal c.reply))) (own_calls_none e own);
   peeks = no_peek_own failed e own;
 }

@@ -7,7 +7,7 @@ use Rattle.mn_base.specs.declared.answer.Answer.{Answer}
 use Rattle.mn_base.specs.declared.ids.Addr.{Addr}
 use Rattle.mn_base.specs.declared.reply.Reply.{Reply}
 use Rattle.mn_base.specs.declared.error.NoMemory.{NoMemory}
-use Rattle.mn_cache.specs.Pages.{pages_without}
+use Rattle.mn_cache.specs.Pages.{page_at, pages_without}
 use Rattle.mn_mini.specs.Mini.{Mini}
 use Rattle.mn_mini.specs.declared.reply.NodeReply.{NodeReply}
 use Rattle.mn_mini.specs.declared.reply.NodeReply.TheVariants as Say
@@ -27,13 +27,14 @@ use Rattle.mn_proxy.specs.Turn as turns
 use Rattle.mn_proxy.specs.declared.step.ProxyStep.{ProxyStep}
 use Rattle.mn_work.specs.declared.work.Work.{Work}
 use Rattle.mn_work.specs.Cached.{AreUsed, Walks, without_next}
-use Rattle.mn_proxy.specs.Kept.{BeginsLater, CacheGoes, CacheTurns, CatalogGoes, CatalogTurns, Issues, KeepsRead, LeavesBy, LeavesFor, PutsRead, Reads}
+use Rattle.mn_proxy.specs.Kept.{BeginsLater, CacheGoes, CacheTurns, CatalogGoes, CatalogTurns, Forgets, Issues, KeepsRead, LeavesBy, LeavesFor, PutsRead, Reads}
 use Rattle.mn_proxy.specs.Kept.{StepLeaves, TurnLeaves, is_later_in, read_by, read_for, read_in}
 use Rattle.mn_proxy.specs.LeafReads.{HasLeaf, shown_by}
 use Rattle.mn_proxy.specs.State.{ProxyState}
-use Rattle.mn_proxy.specs.Turns.{CameOf, read_alone}
+use Rattle.mn_proxy.specs.Turns.{CameOf, Leaves, read_alone}
+use Rattle.mn_work.specs.Knows.{ArePages}
 use Rattle.mn_work.specs.Walks.{is_later}
-use Rattle.mn_work.proofs.Cached.{none_used}
+use Rattle.mn_work.proofs.Cached.{none_used, without}
 use Rattle.mn_proxy.proofs.Taking.{came_keeps}
 
 -- The cache
@@ -101,8 +102,10 @@ puts_on None before after taken result puts = puts
 puts_on (Some (reads_for.Catalog, bytes)) before after taken result puts = puts
 puts_on (Some (reads_for.Count, bytes)) before after taken result puts = puts
 puts_on (Some (reads_for.Plan reply, bytes)) before after taken result puts = puts
-puts_on (Some (reads_for.Page addr, bytes)) before after taken (Ok turn) puts = puts
-puts_on (Some (reads_for.Page addr, bytes)) before after taken (Err none) puts = inr puts
+puts_on (Some (reads_for.Page addr, bytes)) before after taken (Ok turn) puts =
+    record { gone = puts.gone; puts = puts.puts }
+puts_on (Some (reads_for.Page addr, bytes)) before after taken (Err none) puts =
+    record { gone = puts.gone; puts = inr puts.puts }
 
 -- or there was no memory for it
 pub puts_not : (read : Option (Purpose × List ℕ)) (before after : List (Addr × Page)) (taken : Result Taken NoMemory) (result : Result Turn NoMemory)
@@ -112,8 +115,10 @@ puts_not (Some (reads_for.Catalog, bytes)) before after taken result err puts = 
 puts_not (Some (reads_for.Count, bytes)) before after taken result err puts = puts
 puts_not (Some (reads_for.Plan reply, bytes)) before after taken result err puts = puts
 puts_not (Some (reads_for.Page addr, bytes)) before after taken (Ok turn) err puts = absurd cc
-puts_not (Some (reads_for.Page addr, bytes)) before after (Ok taken) (Err e) err puts = inr puts
-puts_not (Some (reads_for.Page addr, bytes)) before after (Err none) (Err e) err puts = puts
+puts_not (Some (reads_for.Page addr, bytes)) before after (Ok taken) (Err e) err puts =
+    record { gone = puts.gone; puts = inr puts.puts }
+puts_not (Some (reads_for.Page addr, bytes)) before after (Err none) (Err e) err puts =
+    record { gone = puts.gone; puts = puts.puts }
 
 -- a turn after it
 pub turns_then : (read : Option (Purpose × List ℕ)) (later late_then : Bool) (before middle after : List (Addr × Page))
@@ -253,18 +258,33 @@ unread_cache read later before after result none same =
     subst (λ (r : Option (Purpose × List ℕ)). CacheTurns r later before after result) (sym none) (same_turns later before after result same)
 
 -- there was no memory for what was read
-unput : (read : Option (Purpose × List ℕ)) (before : List (Addr × Page)) (none : NoMemory)
-    → let failed : Result Turn NoMemory = Err none in PutsRead read before before failed
-unput None before none = refl
-unput (Some (reads_for.Catalog, bytes)) before none = refl
-unput (Some (reads_for.Page addr, bytes)) before none = inl refl
-unput (Some (reads_for.Count, bytes)) before none = refl
-unput (Some (reads_for.Plan reply, bytes)) before none = refl
+pub forgets_puts : (purpose : Purpose) (bytes : List ℕ) (old new : Known) (none : NoMemory) → Forgets purpose old new
+    → let failed : Result Turn NoMemory = Err none in PutsRead (Some (purpose, bytes)) old.cache new.cache failed
+forgets_puts reads_for.Catalog bytes old new none is = ap (λ (k : Known). k.cache) is
+forgets_puts (reads_for.Page addr) bytes old new none is = record {
+  gone = subst (λ (pages : List (Addr × Page)). page_at addr pages ≡ None) (ap (λ (k : Known). k.cache) is.1) is.0;
+  puts = inl (ap (λ (k : Known). k.cache) is.1);
+}
+forgets_puts reads_for.Count bytes old new none is = ap (λ (k : Known). k.cache) is
+forgets_puts (reads_for.Plan reply) bytes old new none is = ap (λ (k : Known). k.cache) is
 
-pub unput_cache : (read : Option (Purpose × List ℕ)) (later : Bool) (before : List (Addr × Page)) (none : NoMemory)
-    → CacheTurns read later before before (Err none)
-unput_cache read later before none =
-    record { put = before; puts = unput read before none; used = before; are_used = none_used before; leaves = inl refl }
+pub forgets_leaves : (purpose : Purpose) (bytes : List ℕ) (old new : Known) → Forgets purpose old new
+    → Leaves old new purpose bytes
+forgets_leaves reads_for.Catalog bytes old new is =
+    (ap (λ (k : Known). k.nodes) is, inl (ap (λ (k : Known). k.catalog) is))
+forgets_leaves (reads_for.Page addr) bytes old new is =
+    (ap (λ (k : Known). k.nodes) is.1, ap (λ (k : Known). k.catalog) is.1)
+forgets_leaves reads_for.Count bytes old new is =
+    (ap (λ (k : Known). k.nodes) is, ap (λ (k : Known). k.catalog) is)
+forgets_leaves (reads_for.Plan reply) bytes old new is =
+    (ap (λ (k : Known). k.nodes) is, ap (λ (k : Known). k.catalog) is)
+
+pub forgets_pages : (purpose : Purpose) (old new : Known) → Forgets purpose old new → ArePages old.cache → ArePages new.cache
+forgets_pages reads_for.Catalog old new is are = subst ArePages (sym (ap (λ (k : Known). k.cache) is)) are
+forgets_pages (reads_for.Page addr) old new is are =
+    subst ArePages (sym (ap (λ (k : Known). k.cache) is.1)) (without addr old.cache are)
+forgets_pages reads_for.Count old new is are = subst ArePages (sym (ap (λ (k : Known). k.cache) is)) are
+forgets_pages (reads_for.Plan reply) old new is are = subst ArePages (sym (ap (λ (k : Known). k.cache) is)) are
 
 pub unread_catalog : {E : Type 0} (read : Option (Purpose × List ℕ)) (before after : Option (List CatEntry)) (result : Result Turn E)
     → read ≡ None → IfOk result (CatalogTurns None before after) → IfOk result (CatalogTurns read before after)
@@ -276,6 +296,13 @@ unread_leaf known w read none leaf = nothing read none leaf.read_is
   where
     nothing : (r : Option (Purpose × List ℕ)) {x : Purpose × List ℕ} → r ≡ None → r ≡ Some x → ⊥
     nothing r e f = cc
+
+pub cache_forgets : (q p : ProxyState) (same : q ≡ p) (purpose : Purpose) (bytes : List ℕ) (later : Bool) (new : Known) (none : NoMemory)
+    → Forgets purpose q.known new → CacheTurns (Some (purpose, bytes)) later p.known.cache new.cache (Err none)
+cache_forgets q p same purpose bytes later new none forgets =
+    subst (λ (x : ProxyState). CacheTurns (Some (purpose, bytes)) later x.known.cache new.cache (Err none)) same
+    (turns_no_more (Some (purpose, bytes)) later q.known.cache new.cache new.cache (Err none)
+    (forgets_puts purpose bytes q.known new none forgets) refl)
 
 -- it was read so
 pub leaf_as : {E : Type 0} (known : Known) (w : Work) (read as_is : Option (Purpose × List ℕ)) (result : Result Turn E) → read ≡ as_is
@@ -309,7 +336,8 @@ puts_ok None before after turn step one two puts = puts
 puts_ok (Some (reads_for.Catalog, bytes)) before after turn step one two puts = puts
 puts_ok (Some (reads_for.Count, bytes)) before after turn step one two puts = puts
 puts_ok (Some (reads_for.Plan reply, bytes)) before after turn step one two puts = puts
-puts_ok (Some (reads_for.Page addr, bytes)) before after (Ok turn) (Ok step) one two puts = puts
+puts_ok (Some (reads_for.Page addr, bytes)) before after (Ok turn) (Ok step) one two puts =
+    record { gone = puts.gone; puts = puts.puts }
 puts_ok (Some (reads_for.Page addr, bytes)) before after (Ok turn) (Err none) one two puts = absurd cc
 puts_ok (Some (reads_for.Page addr, bytes)) before after (Err none) step one two puts = absurd cc
 
@@ -321,8 +349,10 @@ puts_err (Some (reads_for.Catalog, bytes)) before after turn step err puts = put
 puts_err (Some (reads_for.Count, bytes)) before after turn step err puts = puts
 puts_err (Some (reads_for.Plan reply, bytes)) before after turn step err puts = puts
 puts_err (Some (reads_for.Page addr, bytes)) before after turn (Ok step) err puts = absurd cc
-puts_err (Some (reads_for.Page addr, bytes)) before after (Ok turn) (Err e) err puts = inr puts
-puts_err (Some (reads_for.Page addr, bytes)) before after (Err none) (Err e) err puts = puts
+puts_err (Some (reads_for.Page addr, bytes)) before after (Ok turn) (Err e) err puts =
+    record { gone = puts.gone; puts = inr puts.puts }
+puts_err (Some (reads_for.Page addr, bytes)) before after (Err none) (Err e) err puts =
+    record { gone = puts.gone; puts = puts.puts }
 
 module _ (p q : ProxyState) (w : Work) (errand : Errand) (under : p.work ≡ Some (w, errand)) where
   goes_by : (put used : List (Addr × Page)) (step : Result ProxyStep NoMemory) → PutsRead (read_by errand) p.known.cache put step

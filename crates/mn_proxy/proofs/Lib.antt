@@ -10,6 +10,7 @@ pub mod GetsShow
 pub mod Issues
 pub mod Issuing
 pub mod Kept
+pub mod Last
 pub mod LeafReads
 pub mod Measure
 pub mod Opens

@@ -21,6 +21,7 @@ use Rattle.mn_work.specs.declared.work.Job.{Job}
 use Rattle.mn_work.specs.declared.work.Job.TheVariants as at
 use Rattle.mn_work.specs.declared.work.Work.{Work}
 use Rattle.mn_mini.specs.Mini.{Mini}
+use Rattle.mn_proxy.proofs.Last.{job_same, kept_still_last, shown_at, shown_still}
 use Rattle.mn_proxy.specs.Agrees.{AreOverNodes, IsKept, IsOpen, IsOwn, IsUnderWay, JobAsked}
 use Rattle.mn_proxy.specs.Issues.{AreFresh, tid_of}
 use Rattle.mn_proxy.specs.State.{ProxyState}
@@ -32,10 +33,11 @@ use Rattle.mn_proxy.proofs.Issues.{one_issue, own_recovers_none, since_on, under
 use Rattle.mn_proxy.proofs.ScansShow.{leafless_on, scan_on, silent_no_leaf}
 use Rattle.mn_proxy.proofs.Tries.{NoPeek, trying_on}
 
--- the entry reads nothing, refuses nothing, and peeks only where it may
+-- the entry reads nothing and gives nothing, refuses nothing, and peeks only where it may
 pub record IsQuiet (failed : ℕ) (e : Entry) : Type 0 where
   pub goes : GoesOn e.what
   pub reads : seen_at e ≡ []
+  pub gives : shown_at e ≡ []
   pub good : list_all (λ c. not (is_refusal c.reply)) (call_in e.node e.what) ≡ true
   pub peeks : NoPeek failed e
 
@@ -150,6 +152,10 @@ open_on es known w e o quiet over = record {
       subst (λ (l : List Entry). ScanShown l w.spoiled w.op w.job) (sym since)
           (scan_shown_quiet e (since_begin es) w.spoiled w.op w.job quiet.reads o.shows.0),
       subst (λ (l : List Seen). ReadsShowBy known w.failed l w.op w.job) (sym (seen_quiet e o.try quiet.reads)) o.shows.1,
+    );
+    last = (
+      kept_still_last e es known quiet.gives o.last.0,
+      job_same es (e ∷ es) (shown_still e es quiet.gives) w.job o.last.1,
     );
   };
   seens_are = seen_quiet e o.try quiet.reads;

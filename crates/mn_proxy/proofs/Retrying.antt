@@ -16,14 +16,14 @@ use Rattle.mn_proxy.specs.Turn as turns
 use Rattle.mn_work.specs.declared.work.Job.{Job}
 use Rattle.mn_work.specs.declared.work.Job.TheVariants as at
 use Rattle.mn_work.specs.declared.work.Work.{Work}
-use Rattle.mn_proxy.specs.Agrees.{AreOverNodes, IsAtRest, IsOwn}
+use Rattle.mn_proxy.specs.Agrees.{AreOverNodes, IsAtRest, IsOwn, IsOwnLast, KeptIsLast}
 use Rattle.mn_work.specs.Children.{IsUnderWay as ChildIsUnderWay}
 use Rattle.mn_proxy.specs.Jobs.{ScanShown}
 use Rattle.mn_proxy.specs.State.{ProxyState}
 use Rattle.mn_proxy.specs.Tries.{HasNoLeaf, IsTrying, max_tries}
 use Rattle.mn_proxy.specs.Turns.{FailedNow, HasFailed, MayRetry, TurnAgrees}
 use Rattle.mn_work.specs.Walks.{IfLater, is_later}
-use Rattle.mn_work.specs.Works.{IsJobIn, IsStartable, catalog_addr, retried, retried_job}
+use Rattle.mn_work.specs.Works.{IsJobIn, IsStartable, JobIsLast, catalog_addr, retried, retried_job}
 use Rattle.mn_proxy.proofs.Answered.{answered_own, may_answer}
 use Rattle.mn_proxy.proofs.Issues.{closed_are_given_up, closed_are_settled}
 use Rattle.mn_proxy.proofs.Shown.{later_is}
@@ -49,11 +49,19 @@ startable_job known (Branch name child) (at.Scan s) none start = absurd start
 startable_job known (Scan name low high limit) (at.Scan s) none start = (tt, λ same. start)
 startable_job known Versions (at.Scan s) none start = absurd start
 
+-- it goes by nothing yet
+again_last : (es : List Entry) (job : Job) → JobIsLast es (retried_job job)
+again_last es at.Start = tt
+again_last es (at.Get d) = tt
+again_last es (at.Transaction a) = tt
+again_last es (at.Child c) = tt
+again_last es (at.Scan s) = tt
+
 -- the next try begins, and nothing is on its way
 pub retried_rests : (es : List Entry) (known : Known) (w : Work)
-    → IsStartable w.op (retried_job w.job) → MayRetry es known w
+    → IsStartable w.op (retried_job w.job) → KeptIsLast es known → MayRetry es known w
     → IsAtRest es (forgotten known) (retried w)
-retried_rests es known w start may = (
+retried_rests es known w start last may = (
   record {
     of = may.of;
     try = may.try;
@@ -61,6 +69,7 @@ retried_rests es known w start may = (
     leafless = may.leafless;
     asked = tt;
     shows = (may.scan, start);
+    last = ((last.0, tt), again_last es w.job);
   },
   may.closed,
 )
@@ -78,15 +87,16 @@ own_forgotten es p own = record {
 
 -- so it is by the work that was made of it
 pub retried_as : (es : List Entry) (p q : ProxyState) (w after : Work) → p ≡ q
-    → after ≡ retried w → IsStartable w.op (retried_job w.job) → MayRetry es q.known w
+    → after ≡ retried w → IsStartable w.op (retried_job w.job) → KeptIsLast es q.known → MayRetry es q.known w
     → IsAtRest es (forgotten p.known) after
-retried_as es p q w after same is start may =
+retried_as es p q w after same is start last may =
     subst (IsAtRest es (forgotten p.known)) (sym is)
-    (retried_rests es p.known w start (subst (λ (s : ProxyState). MayRetry es s.known w) (sym same) may))
+    (retried_rests es p.known w start (subst (λ (s : ProxyState). KeptIsLast es s.known) (sym same) last) (subst (λ (s : ProxyState). MayRetry es s.known w) (sym same) may))
 
-pub own_forgotten_as : (es : List Entry) (p q : ProxyState) → p ≡ q → IsOwn es q
-    → IsOwn es (record p { known = forgotten p.known })
-own_forgotten_as es p q same own = own_forgotten es p (subst (IsOwn es) (sym same) own)
+pub own_forgotten_as : (es : List Entry) (p q : ProxyState) → p ≡ q → IsOwnLast es q
+    → IsOwnLast es (record p { known = forgotten p.known })
+own_forgotten_as es p q same own =
+    let by : IsOwnLast es p = subst (IsOwnLast es) (sym same) own in (own_forgotten es p by.0, (by.1.0, tt))
 
 -- Tries that failed
 
@@ -167,7 +177,7 @@ gives_up es known w busy few all failed = (
 
 -- its operation is answered so
 pub gives_up_turn : (es : List Entry) (p : ProxyState) (w : Work) (busy : Busy)
-    → w.failed < max_tries → max_tries ≤ w.failed + 1 → IsOwn es p
+    → w.failed < max_tries → max_tries ≤ w.failed + 1 → IsOwnLast es p
     → HasFailed es p.known w (Some busy) → TurnAgrees es p (turns.Ends (answers.Busy busy))
 gives_up_turn es p w busy few all own failed = (
   may_answer es p w.op (answers.Busy busy) failed.of (closed_are_settled (since_begin es) failed.closed)

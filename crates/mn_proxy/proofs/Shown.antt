@@ -14,7 +14,9 @@ use Rattle.mn_base.specs.declared.op.Op.{Op}
 use Rattle.mn_base.specs.declared.answer.Answer.{Answer}
 use Rattle.mn_base.specs.declared.answer.Answer.TheVariants as answer
 use Rattle.mn_base.specs.declared.answer.Busy.TheVariants.{Path}
+use Rattle.mn_base.specs.declared.reply.Reply.{Reply}
 use Rattle.mn_mini.specs.Flat.{bytes_in}
+use Rattle.mn_mini.specs.Mini.{Mini}
 use Rattle.mn_page.specs.declared.entry.CatEntry.{CatEntry}
 use Rattle.mn_page.specs.Forest.{heads_in}
 use Rattle.mn_page.specs.Grammar.{IsEntry, entry_bytes}
@@ -35,6 +37,8 @@ use Rattle.mn_work.specs.declared.next.Next.{Next}
 use Rattle.mn_work.specs.declared.next.Taken.{Taken}
 use Rattle.mn_work.specs.declared.work.Job.{Job}
 use Rattle.mn_proxy.specs.Agrees.{AreComparesShown}
+use Rattle.mn_work.specs.Last.{CatalogIsLast}
+use Rattle.mn_work.specs.Works.{JobIsLast}
 use Rattle.mn_work.specs.Counts.{IsCountOf, SpellsNoCount, count_addr}
 use Rattle.mn_proxy.specs.Jobs.{AreCounted, ReadsShow}
 use Rattle.mn_work.specs.Walks.{Admits, IfLater, is_later}
@@ -51,17 +55,24 @@ AnswerShown nodes failed seens op (answer.Worn n start) =
     × ShowsBytes seens n start (big_bytes 8 (2 ^ 64 - 1)))
 AnswerShown nodes failed seens op other = ⊥
 
-abbrev pub WantShown : ℕ → ℕ → List Seen → Op → List CatEntry → Next → Type 0
-WantShown nodes failed seens op entries (Next.Plan mini reply) =
-    ((es : List Entry) → IsPlanned es (heads_in entries) op mini reply)
+-- a plan does what the operation does, for a client whose list has shown last the catalog and what
+-- the job goes by
+abbrev pub DoesByLast : Op → List CatEntry → Job → Mini → Reply → Type 0
+DoesByLast op entries job mini reply =
+    (es : List Entry) → CatalogIsLast es entries → JobIsLast es job
+    → IsPlanned es (heads_in entries) op mini reply
+
+abbrev pub WantShown : ℕ → ℕ → List Seen → Op → List CatEntry → Job → Next → Type 0
+WantShown nodes failed seens op entries job (Next.Plan mini reply) =
+    DoesByLast op entries job mini reply
     × IfLater failed (AreComparesShown seens mini) × (mini.nodes ≡ nodes)
     × IsTrue (is_plan mini.items)
-WantShown nodes failed seens op entries (Next.Fails (Some cause)) =
+WantShown nodes failed seens op entries job (Next.Fails (Some cause)) =
     IfLater failed (MeetsFault nodes seens op cause)
-WantShown nodes failed seens op entries (Next.Answers answer) =
+WantShown nodes failed seens op entries job (Next.Answers answer) =
     AnswerShown nodes failed seens op answer
-WantShown nodes failed seens op entries Next.Catalog = ⊥
-WantShown nodes failed seens op entries next = ⊤
+WantShown nodes failed seens op entries job Next.Catalog = ⊥
+WantShown nodes failed seens op entries job next = ⊤
 
 -- and where it took something
 abbrev pub TakenShown : ℕ → ℕ → List Seen → Op → List CatEntry → Job → Taken → Type 0
@@ -115,6 +126,17 @@ front_shown seens n start k bytes front shows is long = (
     first (suc i) zero xs le = absurd (omega arith)
     first (suc i) (suc j) [] le = refl
     first (suc i) (suc j) (x ∷ xs) le = ap (λ l. x ∷ l) (first i j xs (omega arith))
+
+taken_again : {X : Type 0} (k : ℕ) (xs : List X) → take (length (take k xs)) xs ≡ take k xs
+taken_again zero xs = refl
+taken_again (suc k) [] = refl
+taken_again (suc k) (x ∷ xs) = ap (λ l. x ∷ l) (taken_again k xs)
+
+-- also where there are fewer
+pub begin_shown : (seens : List Seen) (n : NodeNo) (start k : ℕ) (bytes : List ℕ)
+    → ShowsBytes seens n start bytes → ShowsBytes seens n start (take k bytes)
+begin_shown seens n start k bytes shows =
+    front_shown seens n start (length (take k bytes)) bytes (take k bytes) shows (taken_again k bytes) refl
 
 -- a catalog that was read shows its entries
 pub entry_shown : (seens : List Seen) (seen : Seen) (entries : List CatEntry) (v : ℕ) (e : CatEntry)

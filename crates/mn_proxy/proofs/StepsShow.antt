@@ -20,7 +20,7 @@ use Rattle.mn_mini.specs.Mini.{Mini}
 use Rattle.mn_page.specs.declared.page.Page.{Page}
 use Rattle.mn_page.specs.declared.entry.CatEntry.{CatEntry}
 use Rattle.mn_page.specs.Forest.{heads_in}
-use Rattle.mn_page.specs.Grammar.{IsPage, page_bytes}
+use Rattle.mn_page.specs.Grammar.{IsPage, entry_bytes, page_bytes}
 use Rattle.mn_page.specs.Overlay.{Held}
 use Rattle.mn_page.specs.Space.{count_size, count_start, entry_start}
 use Rattle.mn_tree.specs.Moves.{Comes, Does, LeadsTo, Move, comes_in}
@@ -28,7 +28,7 @@ use Rattle.mn_tree.specs.State.{Drafted, drafted_after, drafted_with, no_pages}
 use Rattle.mn_tree.specs.Tries.{ComeTo}
 use Rattle.mn_world.specs.Answers.{FreeSlots, MeetsFault, ShowsBytes}
 use Rattle.mn_world.specs.Needs.{NeedsSlots, ReadsTree, WritesOld}
-use Rattle.mn_world.specs.Places.{Place, catalog_node}
+use Rattle.mn_world.specs.Places.{Place, catalog_node, number_size}
 use Rattle.mn_world.specs.Shown.{Seen, SeesCatalog, SeesPage}
 use Rattle.mn_world.proofs.Plans.Told.{all_there}
 use Rattle.mn_txn.specs.Attempt.{Attempt as Tried}
@@ -48,7 +48,7 @@ use Rattle.mn_proxy.specs.Jobs.{AreCounted, IsOfTry, ReadsShow}
 use Rattle.mn_work.specs.Walks.{Admits, IfLater, is_later, seen_page}
 use Rattle.mn_work.specs.Works.{JobCounts, JobTakes, JobWants, StepsTake, StepsWant}
 use Rattle.mn_work.proofs.Attempts.{admits_after, of_kept, take_all}
-use Rattle.mn_proxy.proofs.Shown.{AnswerShown, TakenShown, WantShown, bad_count, counted_next, entry_shown, free_shown, later_is, none_counted, not_later, root_reached, seen_count, whole_shown}
+use Rattle.mn_proxy.proofs.Shown.{AnswerShown, TakenShown, WantShown, bad_count, begin_shown, counted_next, entry_shown, free_shown, later_is, none_counted, not_later, root_reached, seen_count, whole_shown}
 
 -- The pages of a try
 
@@ -162,14 +162,17 @@ module _ (nodes : ℕ) (seens : List Seen) (name : List ℕ) (steps : List Step)
       → ShowsBytes seens m count_start (big_bytes count_size count))
       → IsReadAt entries a n start bytes → ShowsBytes seens n start bytes
   read_shown a seen n start bytes has sees brought counts (inl read) =
-      whole_shown seens (seen_page read.page.addr read.page.bytes) n start bytes
+      subst (λ (b : List ℕ). ShowsBytes seens n start b) read.bytes_are
+      (begin_shown seens n start number_size read.page.bytes
+      (whole_shown seens (seen_page read.page.addr read.page.bytes) n start read.page.bytes
       (all_there (λ (p : SeenPage). Contains seens (seen_page p.addr p.bytes)) a.pages.items read.page brought read.among)
-      read.node_is read.start_is read.bytes_are
+      read.node_is read.start_is refl))
   read_shown a seen n start bytes has sees brought counts (inr (inl read)) =
       subst (λ (m : NodeNo). ShowsBytes seens m start bytes) read.node_is
       (subst (λ (s : ℕ). ShowsBytes seens catalog_node s bytes) read.start_is
       (subst (λ (b : List ℕ). ShowsBytes seens catalog_node (entry_start a.version.0) b) read.bytes_are
-      (entry_shown seens seen entries a.version.0 read.entry has sees read.there)))
+      (begin_shown seens catalog_node (entry_start a.version.0) number_size (entry_bytes read.entry)
+      (entry_shown seens seen entries a.version.0 read.entry has sees read.there))))
   read_shown a seen n start bytes has sees brought counts (inr (inr read)) =
       subst (λ (s : ℕ). ShowsBytes seens n s bytes) read.start_is
       (subst (λ (b : List ℕ). ShowsBytes seens n count_start b) read.bytes_are (counts n read.count read.there))
@@ -303,13 +306,13 @@ module _ (nodes : ℕ) (seens : List Seen) (name : List ℕ) (steps : List Step)
         (failed : ℕ) (a b : Attempt) (next : Next)
         → StepsWant known (is_later failed) steps a b next
         → ReadsShow failed seens op entries (at.Transaction a)
-        → WantShown nodes failed seens op entries next
+        → WantShown nodes failed seens op entries (at.Transaction b) next
     wants_shown causes worns left failed a b (Next.Page addr peek) w shows = tt
     wants_shown causes worns left failed a b (Next.Count node peek) w shows = tt
     wants_shown causes worns left failed a b (Next.Plan mini reply) w shows =
         let plan = by_entries (is_later failed) b (Next.Plan mini reply) w.wants in
         let after = wants_reads failed a b (Next.Plan mini reply) w shows in (
-          λ es. plan.does name es after.3,
+          λ es catalog last. plan.does name es after.3 catalog last,
           plan_shown failed b mini plan.compares after,
           plan.nodes_are,
           plan.plan,
@@ -391,7 +394,7 @@ module _ (nodes failed : ℕ) (seens : List Seen) (entries : List CatEntry) (kno
       → JobWants known (is_later failed) op (at.Transaction a) (at.Transaction b) next
       → ReadsShow failed seens op entries (at.Transaction a)
       → ReadsShow failed seens op entries (at.Transaction b)
-      × WantShown nodes failed seens op entries next
+      × WantShown nodes failed seens op entries (at.Transaction b) next
   steps_want_for causes worns left (Tx name steps) next wants shows = (
     wants_reads nodes seens name steps entries known kept of failed a b next wants shows,
     wants_shown nodes seens name steps entries known kept of causes worns left failed a b next wants shows,

@@ -34,7 +34,9 @@ use Rattle.mn_work.specs.declared.work.Job.{Job}
 use Rattle.mn_work.specs.declared.work.Job.TheVariants as at
 use Rattle.mn_work.specs.declared.work.Work.{Work}
 use Rattle.mn_proxy.specs.Agrees.{AreOverNodes, HasRead, IsAtRest, IsKept, IsOpen, IsOwn, IsPeekOf, IsPlaceFor}
-use Rattle.mn_proxy.specs.Agrees.{IsReadOf, IsUnderWay, JobAsked, MayPeekFor}
+use Rattle.mn_proxy.specs.Agrees.{IsOwnLast, IsReadOf, IsUnderWay, JobAsked, KeptIsLast, MayPeekFor}
+use Rattle.mn_proxy.specs.Kept.{PutsRead}
+use Rattle.mn_proxy.proofs.Last.{job_read, kept_read, leaf_read}
 use Rattle.mn_work.specs.Catalogs.{TellsVersions}
 use Rattle.mn_work.specs.Children as children
 use Rattle.mn_proxy.specs.Issues.{AreClosed, AreIssues}
@@ -48,7 +50,7 @@ use Rattle.mn_proxy.specs.Turn.{Turn, turned}
 use Rattle.mn_proxy.specs.declared.step.ProxyStep.{ProxyStep}
 use Rattle.mn_proxy.specs.Turn as turns
 use Rattle.mn_work.specs.Walks.{FailsBy, IfLater, is_later, seen_page}
-use Rattle.mn_work.specs.Works.{AsksCountFor, AsksPageFor, IsJobIn, IsJobOf, IsScan, IsStartable, JobCounts, JobTakes, KeepsOp}
+use Rattle.mn_work.specs.Works.{AsksCountFor, AsksPageFor, IsJobIn, IsJobOf, IsScan, IsStartable, JobCounts, JobIsLast, JobTakes, KeepsOp}
 use Rattle.mn_work.specs.Works.{TakesCatalog, TakesCountBytes, TakesPageBytes, counts_of, retried_job}
 use Rattle.mn_proxy.proofs.CatalogsShow.{asks_now, catalog_seen, fails_scan, fails_shows, goes_on_shows, has_asked, replies_shows}
 use Rattle.mn_proxy.proofs.CatalogsShow.{retried_scan, retried_scan_as, shows_catalog}
@@ -99,11 +101,11 @@ is_read failed e place bytes job purpose (inl (tid, long, is)) = record {
       (ap (list_all (λ (c : Call). not (is_peek c.request))) is);
   came = inl (read_at e place bytes tid is);
 }
-is_read failed e place bytes job purpose (inr (is, zero_is, may)) = record {
-  goes = (called_later e place.node (Ask.Peek place.start place.length) (Say.Peeked bytes) is).goes;
-  good = ap (list_all (λ (c : Call). not (is_refusal c.reply))) is;
+is_read failed e place bytes job purpose (inr (peeked, zero_is, may)) = record {
+  goes = (called_later e place.node (Ask.Peek place.start place.length) (Say.Peeked bytes) peeked.1).goes;
+  good = ap (list_all (λ (c : Call). not (is_refusal c.reply))) peeked.1;
   peeks = first_of_all failed (list_all (λ c. not (is_peek c.request)) (call_in e.node e.what) ≡ true) zero_is;
-  came = inr (peek_at e place bytes is, zero_is, may);
+  came = inr (peek_at e place bytes peeked.1, zero_is, may);
 }
 
 -- a later try has read it
@@ -418,8 +420,9 @@ module _ (e : Entry) (bs : List Entry) (old new : Known) (before after : Work)
   pub open_with : JobAsked old.nodes before.failed before.op (e ∷ since_begin bs) o.trying.before (e ∷ o.try) new.catalog after.job
       → ScanShown (e ∷ since_begin bs) after.spoiled before.op after.job
       → ReadsShowBy new before.failed (seen_in (e ∷ o.try)) before.op after.job
-      → HasNoLeaf before.op (e ∷ o.try) → IsOpen (e ∷ bs) new after
-  open_with asked shown reads leafless =
+      → HasNoLeaf before.op (e ∷ o.try) → KeptIsLast (e ∷ bs) new → JobIsLast (e ∷ bs) after.job
+      → IsOpen (e ∷ bs) new after
+  open_with asked shown reads leafless kept_last job_last =
       subst (λ (k : Known). IsOpen (e ∷ bs) k after) (same_known old new nodes)
       (subst (λ (w : Work). IsOpen (e ∷ bs) (record { nodes = old.nodes; catalog = new.catalog; cache = new.cache }) w) (same_work before after keeps.0 keeps.1)
       (record {
@@ -430,14 +433,16 @@ module _ (e : Entry) (bs : List Entry) (old new : Known) (before after : Work)
         asked = subst (λ (l : List Entry). JobAsked old.nodes before.failed before.op (since_begin (e ∷ bs)) l (e ∷ o.try) new.catalog after.job) (sym tried.1)
             (subst (λ (l : List Entry). JobAsked old.nodes before.failed before.op l o.trying.before (e ∷ o.try) new.catalog after.job) (sym since) asked);
         shows = (subst (λ (l : List Entry). ScanShown l after.spoiled before.op after.job) (sym since) shown, reads);
+        last = (kept_last, job_last);
       }))
 
   -- a leaf that was taken begins a new count of tries
   pub open_anew : BeginsAnew before.op (e ∷ since_begin bs)
       → ScanShown (e ∷ since_begin bs) after.spoiled before.op after.job
-      → ReadsShowBy new 0 [] before.op after.job
+      → ReadsShowBy new 0 [] before.op after.job → KeptIsLast (e ∷ bs) new
+      → JobIsLast (e ∷ bs) after.job
       → IsOpen (e ∷ bs) new (record { op = after.op; failed = 0; spoiled = after.spoiled; job = after.job })
-  open_anew anew shown reads =
+  open_anew anew shown reads kept_last job_last =
       subst (λ (x : Op). IsOpen (e ∷ bs) new (record { op = x; failed = 0; spoiled = after.spoiled; job = after.job })) (sym keeps.0)
       (record {
         of = under_way_still e bs before.op goes o.of;
@@ -453,6 +458,7 @@ module _ (e : Entry) (bs : List Entry) (old new : Known) (before after : Work)
         leafless = now.3;
         asked = asked_any new.nodes 0 before.op (since_begin (e ∷ bs)) (since_begin (e ∷ bs)) [] new.catalog after.job (now.4, tt);
         shows = (subst (λ (l : List Entry). ScanShown l after.spoiled before.op after.job) (sym since) shown, reads);
+        last = (kept_last, job_last);
       })
     where
       now : BeginsAnew before.op (since_begin (e ∷ bs))
@@ -526,6 +532,12 @@ module _ (e : Entry) (bs : List Entry) (old new : Known) (before after : Work)
 
 -- What came of it
 
+-- the try goes on, or took a leaf
+abbrev pub GoesFurther : Taken → Type 0
+GoesFurther Taken.GoesOn = ⊤
+GoesFurther Taken.Leaf = ⊤
+GoesFurther taken = ⊥
+
 -- the try goes on, or begins anew behind a leaf; a read shows the reply; or the try failed
 abbrev pub TakenTells : List Entry → Known → Work → Taken → Type 0
 TakenTells es known w Taken.GoesOn = IsAtRest es known w
@@ -542,7 +554,7 @@ module _ (e : Entry) (bs : List Entry) (old new : Known) (before after : Work) (
     (is : IsJobOf old before) (begun : HasBegun old before.job)
     (closed : AreClosed (since_begin (e ∷ bs)))
     (over : AreOverNodes old.nodes before.failed (since_begin (e ∷ bs)))
-    (own : MatchOption old.catalog ⊤ (IsKept (e ∷ bs))) where
+    (own : MatchOption old.catalog ⊤ (IsKept (e ∷ bs))) (kept_last : KeptIsLast (e ∷ bs) new) where
   -- the minitransactions were over so many nodes
   over_now : AreOverNodes old.nodes before.failed (e ∷ since_begin bs)
   over_now = subst (λ (l : List Entry). AreOverNodes old.nodes before.failed l) (since_on e bs read.goes) over
@@ -579,27 +591,28 @@ module _ (e : Entry) (bs : List Entry) (old new : Known) (before after : Work) (
     job_tells : (taken : Taken)
         → ((cause : Option Busy) → taken ≡ Taken.Fails cause → retried_job after.job ≡ retried_job before.job)
         → JobTold old.nodes before.failed before.op entries e (since_begin bs) o.try before.spoiled after.job taken
-        → TakenTells (e ∷ bs) new after taken
-    job_tells Taken.GoesOn retried told = (
+        → (GoesFurther taken → JobIsLast (e ∷ bs) after.job) → TakenTells (e ∷ bs) new after taken
+    job_tells Taken.GoesOn retried told job_last = (
       open_with e bs old new before after o read.goes read.good read.peeks kept.0 keeps
           (asked_any old.nodes before.failed before.op (e ∷ since_begin bs) o.trying.before (e ∷ o.try) new.catalog after.job (has_asked_now, over_now))
           (spoiled_as after.job told.1)
           (subst (λ (c : Option (List CatEntry)). MatchOption c (IsStartable before.op after.job) (λ x. ReadsShow before.failed (seen_in (e ∷ o.try)) before.op x after.job)) (sym new_catalog) told.0)
-          told.2,
+          told.2 kept_last (job_last tt),
       closed,
     )
-    job_tells Taken.Leaf retried told = (
+    job_tells Taken.Leaf retried told job_last = (
       open_anew e bs old new before after o read.goes read.good read.peeks kept.0 keeps told.2
           (spoiled_as after.job told.1)
-          (subst (λ (c : Option (List CatEntry)). MatchOption c (IsStartable before.op after.job) (λ x. ReadsShow 0 [] before.op x after.job)) (sym new_catalog) told.0),
+          (subst (λ (c : Option (List CatEntry)). MatchOption c (IsStartable before.op after.job) (λ x. ReadsShow 0 [] before.op x after.job)) (sym new_catalog) told.0)
+          kept_last (job_last tt),
       closed,
     )
-    job_tells (Taken.Replies reply) retried told = (
+    job_tells (Taken.Replies reply) retried told job_last = (
       subst (λ (x : Op). IsUnderWay (e ∷ bs) x) (sym keeps.0) (under_way_still e bs before.op read.goes o.of),
       replied_with e bs old new before after o read.goes read.good read.peeks kept.0 keeps reply told.0 told.1
           (told.2 bs shown_catalog),
     )
-    job_tells (Taken.Fails cause) retried told =
+    job_tells (Taken.Fails cause) retried told job_last =
         failed_with e bs old new before after o read.goes read.good read.peeks kept.0 keeps cause has_asked_now told
         (retried_scan_as old (e ∷ since_begin bs) before after is keeps.0 spoiled (retried cause refl)
         (scan_begun_on e (since_begin bs) before.spoiled before.op before.job begun.begun o.shows.0))
@@ -617,26 +630,27 @@ module _ (e : Entry) (bs : List Entry) (old new : Known) (before after : Work) (
   -- a page
   page_comes : (addr : Addr) (bytes : List ℕ) (taken : Taken) → seen ≡ seen_page addr bytes
       → purpose ≡ reads_for.Page addr → AsksPageFor old before.op before.job addr
-      → TakesPageBytes old addr bytes before after taken → TakenTells (e ∷ bs) new after taken
-  page_comes addr bytes taken of_page for_page asks takes =
+      → TakesPageBytes old addr bytes before after taken
+      → (GoesFurther taken → JobIsLast (e ∷ bs) after.job) → TakenTells (e ∷ bs) new after taken
+  page_comes addr bytes taken of_page for_page asks takes job_last =
       job_tells entries_kept.0 entries_kept.1 taken
       (λ cause fails. (retried_after_page old addr bytes before after cause (subst (TakesPageBytes old addr bytes before after) fails takes)).1)
       (page_told old before.failed entries_kept.0 entries_kept.1 e (since_begin bs) o.try before.spoiled addr bytes before.op before.job after.job taken
       (subst (λ (p : Purpose). CameAs before.failed e (seen_page addr bytes) before.job p) for_page
       (subst (λ (s : Seen). CameAs before.failed e s before.job purpose) of_page read.came))
-      is asks takes.1 (reads entries_kept.0 entries_kept.1) o.shows.0 o.leafless)
+      is asks takes.1 (reads entries_kept.0 entries_kept.1) o.shows.0 o.leafless) job_last
 
   -- a count
   count_comes : (bytes : List ℕ) (taken : Taken) → seen ≡ seen_count (counts_of before.job) bytes
       → purpose ≡ reads_for.Count → AsksCountFor before.op before.job → TakesCountBytes bytes before after taken
-      → TakenTells (e ∷ bs) new after taken
-  count_comes bytes taken of_count for_count asks takes =
+      → (GoesFurther taken → JobIsLast (e ∷ bs) after.job) → TakenTells (e ∷ bs) new after taken
+  count_comes bytes taken of_count for_count asks takes job_last =
       job_tells entries_kept.0 entries_kept.1 taken
       (λ cause fails. (retried_after_count bytes before after taken takes).1)
       (count_told old before.failed entries_kept.0 e (since_begin bs) o.try before.spoiled bytes before.op before.job after.job taken
       (subst (λ (p : Purpose). CameAs before.failed e (seen_count (counts_of before.job) bytes) before.job p) for_count
       (subst (λ (s : Seen). CameAs before.failed e s before.job purpose) of_count read.came))
-      is asks takes.1 (reads entries_kept.0 entries_kept.1))
+      is asks takes.1 (reads entries_kept.0 entries_kept.1)) job_last
 
 -- what may begin on a new catalog may still, where the try failed
 starts_still : (bytes : List ℕ) (known : Known) (before after : Work) (cause : Option Busy)
@@ -658,7 +672,8 @@ module _ (e : Entry) (bs : List Entry) (old new : Known) (before after : Work) (
     (read : IsReadOf e catalog_place bytes) (o : IsOpen bs old before) (nodes : new.nodes ≡ old.nodes)
     (keeps : KeepsOp before after) (starts : IsStartable before.op before.job)
     (closed : AreClosed (since_begin (e ∷ bs)))
-    (over : AreOverNodes old.nodes before.failed (since_begin (e ∷ bs))) where
+    (over : AreOverNodes old.nodes before.failed (since_begin (e ∷ bs)))
+    (kept_last : KeptIsLast (e ∷ bs) new) where
   -- the entry read the catalog
   r : IsRead before.failed e (catalog_seen bytes) before.job reads_for.Catalog
   r = is_read before.failed e catalog_place bytes before.job reads_for.Catalog (inl read)
@@ -678,8 +693,9 @@ module _ (e : Entry) (bs : List Entry) (old new : Known) (before after : Work) (
   over_since = subst (λ (l : List Entry). AreOverNodes old.nodes before.failed l) (since_on e bs r.goes) over
 
   -- by what its bytes tell
-  catalog_comes : (taken : Taken) → TakesCatalog bytes before new after taken → TakenTells (e ∷ bs) new after taken
-  catalog_comes Taken.GoesOn takes =
+  catalog_comes : (taken : Taken) → TakesCatalog bytes before new after taken
+      → (GoesFurther taken → JobIsLast (e ∷ bs) after.job) → TakenTells (e ∷ bs) new after taken
+  catalog_comes Taken.GoesOn takes job_last =
       let shows : JobShows new (e ∷ since_begin bs) (e ∷ o.try) after =
       goes_on_shows bytes e seen_now new before after (since_begin bs) o.try starts keeps takes o.shows.0 in (
         open_with e bs old new before after o r.goes r.good r.peeks nodes keeps
@@ -687,17 +703,17 @@ module _ (e : Entry) (bs : List Entry) (old new : Known) (before after : Work) (
             (subst (λ (x : Op). ScanShown (e ∷ since_begin bs) after.spoiled x after.job) keeps.0 shows.0)
             (subst (λ (x : Op). ReadsShowBy new before.failed (seen_in (e ∷ o.try)) x after.job) keeps.0
             (subst (λ (n : ℕ). ReadsShowBy new n (seen_in (e ∷ o.try)) after.op after.job) keeps.1 shows.1))
-            (leafless_on before.op e o.try (catalog_no_leaf e bytes seen_now) o.leafless),
+            (leafless_on before.op e o.try (catalog_no_leaf e bytes seen_now) o.leafless) kept_last (job_last tt),
         closed,
       )
-  catalog_comes Taken.Leaf (inl bad) = let fails = bad.4 in absurd cc
-  catalog_comes Taken.Leaf (inr read) = absurd read.3
-  catalog_comes (Taken.Replies reply) takes = (
+  catalog_comes Taken.Leaf (inl bad) job_last = let fails = bad.4 in absurd cc
+  catalog_comes Taken.Leaf (inr read) job_last = absurd read.3
+  catalog_comes (Taken.Replies reply) takes job_last = (
     subst (λ (x : Op). IsUnderWay (e ∷ bs) x) (sym keeps.0) (under_way_still e bs before.op r.goes o.of),
     replied_with e bs old new before after o r.goes r.good r.peeks nodes keeps reply (catalog_seen bytes) seen_now
         (inr (replies_shows bytes e seen_now new before after (since_begin bs) o.try reply takes)),
   )
-  catalog_comes (Taken.Fails cause) takes =
+  catalog_comes (Taken.Fails cause) takes job_last =
       failed_with e bs old new before after o r.goes r.good r.peeks nodes keeps cause asked_now (fails cause takes)
       (retried_scan new (e ∷ since_begin bs) after
       (starts_right new after (starts_still bytes new before after cause starts keeps takes))
@@ -733,35 +749,46 @@ pub take_tells : (es : List Entry) (old new : Known) (before after : Work) (purp
     (bytes : List ℕ) (taken : Taken) (r : HasRead es old before purpose bytes)
     → WaitsFor old before purpose → AreClosed (since_begin es)
     → AreOverNodes old.nodes before.failed (since_begin es) → MatchOption old.catalog ⊤ (IsKept es)
-    → CameOf old new before after purpose bytes taken → TakenTells es new after taken
-take_tells es old new before after purpose bytes taken r waits closed over own came =
+    → CameOf old new before after purpose bytes taken → KeptIsLast es new
+    → TakenTells es new after taken
+take_tells es old new before after purpose bytes taken r waits closed over own came kept_last =
     subst (λ (l : List Entry). TakenTells l new after taken) (sym r.split)
     (from purpose waits r.is r.came
     (subst (λ (l : List Entry). AreClosed (since_begin l)) r.split closed)
     (subst (λ (l : List Entry). AreOverNodes old.nodes before.failed (since_begin l)) r.split over)
-    (subst (λ (l : List Entry). MatchOption old.catalog ⊤ (IsKept l)) r.split own) came)
+    (subst (λ (l : List Entry). MatchOption old.catalog ⊤ (IsKept l)) r.split own) came
+    (subst (λ (l : List Entry). KeptIsLast l new) r.split kept_last)
+    (subst (λ (l : List Entry). GoesFurther taken → JobIsLast l after.job) r.split (job_last taken came)))
   where
+    job_last : (t : Taken) → CameOf old new before after purpose bytes t → GoesFurther t
+        → JobIsLast es after.job
+    job_last Taken.GoesOn came goes = job_read es old before purpose bytes r new after waits came
+    job_last Taken.Leaf came goes = leaf_read es old new before after purpose bytes came
+    job_last (Taken.Replies reply) came goes = absurd goes
+    job_last (Taken.Fails cause) came goes = absurd goes
+
     from : (p : Purpose) → WaitsFor old before p → IsPlaceFor before.job p r.place
         → IsReadOf r.e r.place bytes ⊎ (IsPeekOf r.e r.place bytes × (before.failed ≡ 0) × MayPeekFor before.job p)
         → AreClosed (since_begin (r.e ∷ r.before))
         → AreOverNodes old.nodes before.failed (since_begin (r.e ∷ r.before))
         → MatchOption old.catalog ⊤ (IsKept (r.e ∷ r.before)) → CameOf old new before after p bytes taken
+        → KeptIsLast (r.e ∷ r.before) new → (GoesFurther taken → JobIsLast (r.e ∷ r.before) after.job)
         → TakenTells (r.e ∷ r.before) new after taken
-    from reads_for.Catalog waits is (inl read) closed over own came =
+    from reads_for.Catalog waits is (inl read) closed over own came kept jobs =
         catalog_comes r.e r.before old new before after bytes (subst (λ (p : Place). IsReadOf r.e p bytes) is read)
-        r.open_before came.0 came.1 waits.1 closed over taken came.2
-    from reads_for.Catalog waits is (inr peeked) closed over own came = absurd peeked.2
-    from (reads_for.Page addr) waits is read closed over own came =
+        r.open_before came.0 came.1 waits.1 closed over kept taken came.2 jobs
+    from reads_for.Catalog waits is (inr peeked) closed over own came kept jobs = absurd peeked.2
+    from (reads_for.Page addr) waits is read closed over own came kept jobs =
         page_comes r.e r.before old new before after (record { place = r.place; bytes = bytes }) (reads_for.Page addr) r.open_before
         (is_read before.failed r.e r.place bytes before.job (reads_for.Page addr) read) came.0 came.1 came.2.0 waits.0
-        (page_begun old before.op before.job addr waits.0 waits.1.0) closed over own addr bytes taken
-        (ap (λ (p : Place). record { place = p; bytes = bytes }) is) refl waits.1.0 came.2
-    from reads_for.Count waits is read closed over own came =
+        (page_begun old before.op before.job addr waits.0 waits.1.0) closed over own kept addr bytes taken
+        (ap (λ (p : Place). record { place = p; bytes = bytes }) is) refl waits.1.0 came.2 jobs
+    from reads_for.Count waits is read closed over own came kept jobs =
         count_comes r.e r.before old new before after (record { place = r.place; bytes = bytes }) reads_for.Count r.open_before
         (is_read before.failed r.e r.place bytes before.job reads_for.Count read) (keeps_same old new came.0) came.1 came.2.0 waits.0
-        (count_begun old before.op before.job waits.0 waits.1.0) closed over own bytes taken
-        (ap (λ (p : Place). record { place = p; bytes = bytes }) (count_at before.op before.job r.place waits.1.0 is)) refl waits.1.0 came.2
-    from (reads_for.Plan reply) waits is read closed over own came = absurd is
+        (count_begun old before.op before.job waits.0 waits.1.0) closed over own kept bytes taken
+        (ap (λ (p : Place). record { place = p; bytes = bytes }) (count_at before.op before.job r.place waits.1.0 is)) refl waits.1.0 came.2 jobs
+    from (reads_for.Plan reply) waits is read closed over own came kept jobs = absurd is
 
 -- where it goes on or takes a leaf, its job is one of the operation
 pub came_job : (old new : Known) (before after : Work) (purpose : Purpose) (bytes : List ℕ) (taken : Taken)
@@ -811,11 +838,13 @@ came_keeps old new before after (reads_for.Plan reply) bytes taken came = absurd
 
 -- What is kept
 
--- the list shows what is kept then
-pub own_left : (es : List Entry) (p : ProxyState) (new : Known) (before : Work) (purpose : Purpose)
-    (bytes : List ℕ) → IsOwn es p → HasRead es p.known before purpose bytes → Leaves p.known new purpose bytes
-    → IsOwn es (with_known p new)
-own_left es p new before purpose bytes own r leaves = from purpose r.is r.came leaves
+-- the list shows what is kept then, and has shown it last
+pub own_left : {T : Type 0} (es : List Entry) (p : ProxyState) (new : Known) (before : Work) (purpose : Purpose)
+    (bytes : List ℕ) (result : Result T NoMemory) → IsOwn es p → HasRead es p.known before purpose bytes
+    → Leaves p.known new purpose bytes → PutsRead (Some (purpose, bytes)) p.known.cache new.cache result
+    → IsOwnLast es (with_known p new)
+own_left es p new before purpose bytes result own r leaves puts =
+    (from purpose r.is r.came leaves, kept_read es p.known before purpose bytes r new result leaves puts)
   where
     with_catalog : new.nodes ≡ p.known.nodes → MatchOption new.catalog ⊤ (IsKept es) → IsOwn es (with_known p new)
     with_catalog nodes kept = record {
@@ -840,7 +869,8 @@ own_left es p new before purpose bytes own r leaves = from purpose r.is r.came l
     from : (q : Purpose) → IsPlaceFor before.job q r.place
         → IsReadOf r.e r.place bytes ⊎ (IsPeekOf r.e r.place bytes × (before.failed ≡ 0) × MayPeekFor before.job q)
         → Leaves p.known new q bytes → IsOwn es (with_known p new)
-    from reads_for.Catalog is read (nodes, inl stays) = same (nodes, stays)
+    from reads_for.Catalog is read (nodes, inl none) =
+        with_catalog nodes (subst (λ (c : Option (List CatEntry)). MatchOption c ⊤ (IsKept es)) (sym none) tt)
     from reads_for.Catalog is (inl read) (nodes, inr tells) =
         let it = subst (λ (q : Place). IsReadOf r.e q bytes) is read in
         with_catalog nodes (learnt new.catalog tells (read_at r.e catalog_place bytes it.0 it.2))
@@ -852,7 +882,7 @@ own_left es p new before purpose bytes own r leaves = from purpose r.is r.came l
 -- The reply
 
 -- the operation is answered by it
-pub replies_turn : (es : List Entry) (q : ProxyState) (known : Known) (w : Work) (reply : Reply) → IsOwn es q
+pub replies_turn : (es : List Entry) (q : ProxyState) (known : Known) (w : Work) (reply : Reply) → IsOwnLast es q
     → AreClosed (since_begin es) → TakenTells es known w (Taken.Replies reply)
     → TurnAgrees es q (turns.Ends (answers.Replied reply))
 replies_turn es q known w reply own closed told = (
@@ -885,33 +915,35 @@ sound_left p new purpose bytes sound idle leaves pages = record {
 
 module _ (es : List Entry) (q p : ProxyState) (same : q ≡ p) (new : Known) (before : Work) (purpose : Purpose)
     (bytes : List ℕ) (own : IsOwn es p) (read : HasRead es p.known before purpose bytes) where
-  -- the list shows what is kept
-  pub own_left_as : Leaves q.known new purpose bytes → IsOwn es (with_known q new)
-  own_left_as leaves =
-      own_left es q new before purpose bytes (subst (IsOwn es) (sym same) own)
-      (subst (λ (x : ProxyState). HasRead es x.known before purpose bytes) (sym same) read) leaves
+  -- the list shows what is kept, and has shown it last
+  pub own_left_as : {T : Type 0} (result : Result T NoMemory) → Leaves q.known new purpose bytes
+      → PutsRead (Some (purpose, bytes)) q.known.cache new.cache result → IsOwnLast es (with_known q new)
+  own_left_as result leaves puts =
+      own_left es q new before purpose bytes result (subst (IsOwn es) (sym same) own)
+      (subst (λ (x : ProxyState). HasRead es x.known before purpose bytes) (sym same) read) leaves puts
 
   -- by what was taken
   pub tells_as : (after : Work) (taken as_is : Taken) → taken ≡ as_is → WaitsFor p.known before purpose
       → AreClosed (since_begin es) → AreOverNodes p.known.nodes before.failed (since_begin es)
-      → CameOf q.known new before after purpose bytes taken → TakenTells es new after as_is
-  tells_as after taken as_is is waits closed over came =
+      → CameOf q.known new before after purpose bytes taken → KeptIsLast es new
+      → TakenTells es new after as_is
+  tells_as after taken as_is is waits closed over came kept_last =
       take_tells es p.known new before after purpose bytes as_is read waits closed over own.catalog
       (subst (λ (x : ProxyState). CameOf x.known new before after purpose bytes as_is) same
-      (subst (λ (t : Taken). CameOf q.known new before after purpose bytes t) is came))
+      (subst (λ (t : Taken). CameOf q.known new before after purpose bytes t) is came)) kept_last
 
   -- with the reply its operation ends
   pub replies_as : (after : Work) (taken : Taken) (reply : Reply) (turn : Turn) (r : ProxyState)
       → r ≡ with_known q new → turn ≡ turns.Ends (answers.Replied reply) → taken ≡ Taken.Replies reply
       → WaitsFor p.known before purpose → AreClosed (since_begin es)
       → AreOverNodes p.known.nodes before.failed (since_begin es)
-      → CameOf q.known new before after purpose bytes taken → Leaves q.known new purpose bytes
+      → CameOf q.known new before after purpose bytes taken → IsOwnLast es (with_known q new)
       → TurnAgrees es r turn
-  replies_as after taken reply turn r state ends is waits closed over came leaves =
+  replies_as after taken reply turn r state ends is waits closed over came left =
       subst (λ (x : ProxyState). TurnAgrees es x turn) (sym state)
       (subst (TurnAgrees es (with_known q new)) (sym ends)
-      (replies_turn es (with_known q new) new after reply (own_left_as leaves) closed
-      (tells_as after taken (Taken.Replies reply) is waits closed over came)))
+      (replies_turn es (with_known q new) new after reply left closed
+      (tells_as after taken (Taken.Replies reply) is waits closed over came left.1)))
 
 -- of a turn that was made then
 pub kept_as : {A : Type 0} (q p r : ProxyState) (new : Known) (purpose : Purpose) (bytes : List ℕ) → q ≡ p

@@ -12,7 +12,7 @@ use Rattle.mn_work.specs.declared.get.Descent.{Descent}
 use Rattle.mn_work.specs.declared.known.Known.{Known}
 use Rattle.mn_work.specs.declared.work.Work.{Work}
 use Rattle.mn_work.specs.Walks.{is_later}
-use Rattle.mn_proxy.specs.Agrees.{Agrees, Enters, EntersWant, IsOwn, IsSoundStep, MayStep, Wants, WorksBy}
+use Rattle.mn_proxy.specs.Agrees.{Agrees, Enters, EntersWant, IsOwnLast, IsSoundStep, MayStep, Wants, WorksBy}
 use Rattle.mn_proxy.specs.Kept.{CacheGoes, CacheTurns, CatalogGoes, CatalogTurns, read_by}
 use Rattle.mn_proxy.specs.LeafReads.{ReadsLeaf, StepReadsLeaf}
 use Rattle.mn_proxy.specs.Measure.{Falls, GoesBelow, steps_left}
@@ -56,10 +56,9 @@ pub turned_agree : (es new : List Entry) (p q : ProxyState) (work : Option (Work
 turned_agree es new p q (Some (w, errand)) (Ok step) same is agrees = λ enters.
     subst (λ (o : Option (Work × Errand)). Agrees new (record q { work = o })) (sym is)
     (goes_agree es new p q (turns.Goes step w errand) step w errand refl same agrees enters)
-turned_agree es new p q None (Ok (steps.Done answer)) same is agrees = λ enters. (
-  agrees.1 new (enters_of_same es new p q (steps.Done answer) (sym same) enters),
-  subst (WorksBy new q) (sym is) (answered_idle es new p answer enters),
-)
+turned_agree es new p q None (Ok (steps.Done answer)) same is agrees = λ enters.
+    let now = agrees.1 new (enters_of_same es new p q (steps.Done answer) (sym same) enters) in
+    (now.0, subst (WorksBy new q) (sym is) (answered_idle es new p answer enters, now.1))
 turned_agree es new p q None (Ok (steps.Issue tid mini)) same is agrees = absurd agrees
 turned_agree es new p q None (Ok (steps.Abandon tid)) same is agrees = absurd agrees
 turned_agree es new p q None (Ok (steps.Call node request)) same is agrees = absurd agrees
@@ -67,7 +66,7 @@ turned_agree es new p q work (Err none) same is agrees = tt
 
 -- for want of memory its operation is answered so
 pub turned_left : (es new : List Entry) (p q : ProxyState) (r : Result ProxyStep NoMemory)
-    → q.client ≡ p.client → OnErr r (q.work ≡ None) → OnErr r (IsOwn es q)
+    → q.client ≡ p.client → OnErr r (q.work ≡ None) → OnErr r (IsOwnLast es q)
     → OnErr r (EntersWant es p new → Agrees new q)
 turned_left es new p q (Ok step) same idle own = tt
 turned_left es new p q (Err none) same idle own = left_agrees es new p q same idle own

@@ -14,7 +14,7 @@ use Rattle.mn_proxy.specs.declared.step.ProxyStep.{ProxyStep}
 use Rattle.mn_proxy.specs.declared.step.ProxyStep.TheVariants as steps
 use Rattle.mn_work.specs.declared.work.Work.{Work}
 use Rattle.mn_work.specs.declared.known.Known.{Known}
-use Rattle.mn_proxy.specs.Agrees.{Agrees, Enters, EntersWant, ErrandAgrees, HasOutIn, IsOwn, IsOwnEntry, IsSoundStep, MayStep, Wants, WorksBy}
+use Rattle.mn_proxy.specs.Agrees.{Agrees, Enters, EntersWant, ErrandAgrees, HasOutIn, IsOwn, IsOwnEntry, IsOwnLast, IsSoundStep, MayStep, Wants, WorksBy}
 use Rattle.mn_proxy.specs.State.{IsOutIn, ProxyState}
 use Rattle.mn_proxy.specs.Turns.{IsOutAs, IsSoundTurn, TurnAgrees, with_work}
 use Rattle.mn_proxy.proofs.Answered.{answered_idle, answered_own}
@@ -98,12 +98,11 @@ goes_wants known p turn step w errand is work sound =
 
 -- for want of memory its operation is answered so
 pub left_agrees : (es new : List Entry) (p q : ProxyState) → q.client ≡ p.client → q.work ≡ None
-    → IsOwn es q → EntersWant es p new → Agrees new q
-left_agrees es new p q same idle own enters = (
-  answered_own es new q answers.NoMemory own
-      (enters_of_same es new p q (steps.Done answers.NoMemory) (sym same) enters),
-  subst (WorksBy new q) (sym idle) (answered_idle es new p answers.NoMemory enters),
-)
+    → IsOwnLast es q → EntersWant es p new → Agrees new q
+left_agrees es new p q same idle own enters =
+    let now = answered_own es new q answers.NoMemory own
+    (enters_of_same es new p q (steps.Done answers.NoMemory) (sym same) enters) in
+    (now.0, subst (WorksBy new q) (sym idle) (answered_idle es new p answers.NoMemory enters, now.1))
 
 pub on_error : {T : Type 0} {E : Type 0} (r : Result T E) (told : Type 0) → told → OnErr r told
 on_error (Ok x) told is = tt

@@ -26,21 +26,24 @@ use Rattle.mn_proxy.specs.declared.step.ProxyStep.TheVariants as steps
 use Rattle.mn_work.specs.declared.work.Job.{Job}
 use Rattle.mn_work.specs.declared.work.Job.TheVariants as at
 use Rattle.mn_work.specs.declared.work.Work.{Work}
-use Rattle.mn_proxy.specs.Agrees.{AreComparesShown, AreOverNodes, IsAtRest, IsKept, IsOwn, IsPlaceFor, MayPeekFor}
+use Rattle.mn_proxy.specs.Agrees.{AreComparesShown, AreOverNodes, IsAtRest, IsKept, IsOwn, IsOwnLast, IsPlaceFor, MayPeekFor}
 use Rattle.mn_proxy.specs.Agrees.{MayStep}
 use Rattle.mn_proxy.specs.Issues.{AreClosed, AreIssues}
+use Rattle.mn_work.specs.Cached.{Walks}
 use Rattle.mn_work.specs.Knows.{KeepsKnown}
+use Rattle.mn_work.specs.Last.{CatalogIsLast}
 use Rattle.mn_proxy.specs.State.{ProxyState}
 use Rattle.mn_proxy.specs.Tries.{HasAsked, IsTrying}
 use Rattle.mn_proxy.specs.Turn as turns
 use Rattle.mn_proxy.specs.Turns.{FailedNow, HasFailed, KeepsSelf, MayIssue, TurnAgrees, with_known}
-use Rattle.mn_work.specs.Walks.{FailsBy, IfLater}
-use Rattle.mn_work.specs.Works.{AsksCountFor, IsJobOf, KeepsOp, WantsNext, counts_of}
+use Rattle.mn_work.specs.Walks.{FailsBy, IfLater, is_later}
+use Rattle.mn_work.specs.Works.{AsksCountFor, IsJobOf, KeepsOp, StaysLast, WantsNext, counts_of}
 use Rattle.mn_proxy.proofs.Advancing.{AdvanceTells, AnswerTold, IsNoScan, NextTold, OpenAs, PeeksAs}
 use Rattle.mn_proxy.proofs.Advancing.{advance_tells, open_kept}
 use Rattle.mn_proxy.proofs.Answered.{answered_own, may_answer}
 use Rattle.mn_proxy.proofs.CatalogsShow.{retried_scan_as}
 use Rattle.mn_proxy.proofs.Issues.{closed_are_given_up, closed_are_settled}
+use Rattle.mn_proxy.proofs.Last.{kept_walks}
 use Rattle.mn_proxy.proofs.Shown.{AnswerShown, not_later}
 use Rattle.mn_proxy.proofs.Tries.{last_try}
 use Rattle.mn_work.proofs.Works.{plan_asked, retried_after_wants}
@@ -58,12 +61,19 @@ own_known es p known keeps own = record {
   recovers = own.recovers;
 }
 
--- a kept catalog is one that the list shows
+-- and what was shown last is so, where some of the cached pages are used, and one may leave
+pub own_last : (es : List Entry) (p : ProxyState) (known : Known) (later : Bool) (next : Option Next)
+    → KeepsKnown p.known known → Walks later next p.known.cache known.cache → IsOwnLast es p
+    → IsOwnLast es (with_known p known)
+own_last es p known later next keeps walks (own, last) =
+    (own_known es p known keeps own, kept_walks es p.known known later next keeps.1 walks last)
+
+-- a kept catalog is one that the list shows, and has shown last
 kept_shown : (es : List Entry) (o : Option (List CatEntry)) (P : List CatEntry → Type 0)
-    → MatchOption o ⊤ (IsKept es) → MatchOption o ⊥ P
-    → (entries : List CatEntry) × IsKept es entries × P entries
-kept_shown es None P kept told = absurd told
-kept_shown es (Some entries) P kept told = (entries, kept, told)
+    → MatchOption o ⊤ (IsKept es) → MatchOption o ⊤ (CatalogIsLast es) → MatchOption o ⊥ P
+    → (entries : List CatEntry) × IsKept es entries × P entries × CatalogIsLast es entries
+kept_shown es None P kept last told = absurd told
+kept_shown es (Some entries) P kept last told = (entries, kept, told, last)
 
 -- Counts
 
@@ -140,16 +150,21 @@ last_shown es nodes failed op try t asked over scanless closed answer shown = ab
 
 module _ (es : List Entry) (p : ProxyState) (known : Known) (before after : Work) (next : Next)
     (keeps : KeepsKnown p.known known) (is : IsJobOf p.known before) (op : KeepsOp before after)
-    (wants : WantsNext known before after next) (causes : TriesShowCauses) (worns : WornPagesShow)
-    (left : FreeSlotsAreLeft) (own : IsOwn es p) (rest : IsAtRest es p.known before) where
+    (wants : WantsNext known before after next)
+    (walks : Walks (is_later before.failed) (Some next) p.known.cache known.cache)
+    (goes : StaysLast p.known.cache before.job after.job) (causes : TriesShowCauses)
+    (worns : WornPagesShow) (left : FreeSlotsAreLeft) (own : IsOwn es p)
+    (rest : IsAtRest es p.known before) where
   now : List Entry
   now = since_begin es
 
   stays : OpenAs es known before rest.0.try
-  stays = open_kept es p.known known before keeps.0 keeps.1 rest.0
+  stays =
+      open_kept es p.known known before keeps.0 keeps.1
+      (kept_walks es p.known known (is_later before.failed) (Some next) keeps.1 walks rest.0.last.0) rest.0
 
   tells : AdvanceTells es known after before stays.is.trying.before stays.is.try next
-  tells = advance_tells es p.known known before after next keeps is op wants causes worns left stays.is
+  tells = advance_tells es p.known known before after next keeps is op wants causes worns left (goes es rest.0.last.0.0 rest.0.last.1) stays.is
 
   -- where its try goes on, the client is at rest
   rest_of : OpenAs es known after stays.is.try → IsAtRest es known after
@@ -157,15 +172,16 @@ module _ (es : List Entry) (p : ProxyState) (known : Known) (before after : Work
 
   told_of : (n : Next)
       → MatchOption known.catalog ⊥
-      (λ entries. NextTold known.nodes after.failed (since_begin es) (seen_in stays.is.try) after.op entries n
+      (λ entries. NextTold known.nodes after.failed (since_begin es) (seen_in stays.is.try) after.op entries after.job n
       × PeeksAs after.failed after.job n)
       → (entries : List CatEntry) × IsKept es entries
-      × (NextTold known.nodes after.failed (since_begin es) (seen_in stays.is.try) after.op entries n
+      × (NextTold known.nodes after.failed (since_begin es) (seen_in stays.is.try) after.op entries after.job n
       × PeeksAs after.failed after.job n)
+      × CatalogIsLast es entries
   told_of n told =
       kept_shown es known.catalog
-      (λ entries. NextTold known.nodes after.failed (since_begin es) (seen_in stays.is.try) after.op entries n
-      × PeeksAs after.failed after.job n) (own_known es p known keeps own).catalog told
+      (λ entries. NextTold known.nodes after.failed (since_begin es) (seen_in stays.is.try) after.op entries after.job n
+      × PeeksAs after.failed after.job n) (own_known es p known keeps own).catalog stays.is.last.0.1 told
 
   pub asks_catalog : next ≡ Next.Catalog → IsAtRest es known after
   asks_catalog e =
@@ -193,7 +209,7 @@ module _ (es : List Entry) (p : ProxyState) (known : Known) (before after : Work
       (subst (λ (n : Next). WantsNext known before after n) e wants) in
       record {
         rest = rest_of t.open_still;
-        made = (told.2.0.3, (told.0, told.1.0, told.2.0.0 es), begun.1);
+        made = (told.2.0.3, (told.0, told.1.0, told.2.0.0 es told.3 t.open_still.is.last.1), begun.1);
         shown = subst (λ (l : List Entry). IfLater after.failed (AreComparesShown (seen_in l) mini)) (sym t.open_still.try_is) told.2.0.1;
       }
 
@@ -250,6 +266,12 @@ pub own_self : (es : List Entry) (p q : ProxyState) → q ≡ with_known p q.kno
     → KeepsKnown p.known q.known → IsOwn es p → IsOwn es q
 own_self es p q same keeps own = subst (IsOwn es) (sym same) (own_known es p q.known keeps own)
 
+pub own_self_last : (es : List Entry) (p q : ProxyState) (later : Bool) (next : Option Next)
+    → q ≡ with_known p q.known → KeepsKnown p.known q.known → Walks later next p.known.cache q.known.cache
+    → IsOwnLast es p → IsOwnLast es q
+own_self_last es p q later next same keeps walks own =
+    subst (IsOwnLast es) (sym same) (own_last es p q.known later next keeps walks own)
+
 pub kept_self : {A : Type 0} (p q n : ProxyState) → q ≡ with_known p q.known
     → KeepsKnown p.known q.known → KeepsSelf q n × A → KeepsSelf p n × A
 kept_self p q n same keeps k = (
@@ -263,11 +285,11 @@ kept_self p q n same keeps k = (
 
 -- with an answer it is idle, and keeps what it wanted by
 pub answers_self : (es : List Entry) (p q : ProxyState) (answer : Answer) → q ≡ with_known p q.known
-    → KeepsKnown p.known q.known → IsOwn es p → MayStep es (with_known p q.known) (steps.Done answer)
+    → IsOwnLast es q → MayStep es (with_known p q.known) (steps.Done answer)
     → TurnAgrees es q (turns.Ends answer)
-answers_self es p q answer same keeps own may = (
+answers_self es p q answer same own may = (
   subst (λ (s : ProxyState). MayStep es s (steps.Done answer)) (sym same) may,
-  λ new enters. answered_own es new q answer (own_self es p q same keeps own) enters,
+  λ new enters. answered_own es new q answer own enters,
 )
 
 pub kept_idle : (p q : ProxyState) → q ≡ with_known p q.known → KeepsKnown p.known q.known

@@ -45,6 +45,7 @@ use Rattle.mn_work.specs.declared.work.Job.{Job}
 use Rattle.mn_work.specs.declared.work.Job.TheVariants as at
 use Rattle.mn_work.specs.declared.work.Work.{Work}
 use Rattle.mn_work.specs.Catalogs.{HasParentsBelow}
+use Rattle.mn_work.specs.Last.{CacheIsLast, CatalogIsLast}
 use Rattle.mn_proxy.specs.Issues.{AreClosed, AreFresh, AreIssues, are_closed}
 use Rattle.mn_proxy.specs.Jobs.{JobShows, ScanShown}
 use Rattle.mn_work.specs.Places.{place_of}
@@ -52,13 +53,19 @@ use Rattle.mn_work.specs.Refusals.{refusal_of}
 use Rattle.mn_proxy.specs.State.{IsIdle, IsReady, ProxyState}
 use Rattle.mn_proxy.specs.Tries.{HasAsked, HasNoLeaf, IsTrying, WasRefused}
 use Rattle.mn_work.specs.Walks.{IfLater}
-use Rattle.mn_work.specs.Works.{HasBegun}
+use Rattle.mn_work.specs.Works.{HasBegun, JobIsLast}
 
 -- What is kept
 
 -- the list shows this catalog, with parents of lower numbers
 abbrev pub IsKept : List Entry → List CatEntry → Type 0
 IsKept es entries = ShowsCatalog es entries × HasParentsBelow entries
+
+-- the list has shown last what is kept: the pages that are cached, and what stands in the place of
+-- each version by the catalog
+abbrev pub KeptIsLast : List Entry → Known → Type 0
+KeptIsLast es known =
+    CacheIsLast es known.cache × MatchOption known.catalog ⊤ (CatalogIsLast es)
 
 -- what is so whatever is under way
 pub record IsOwn (es : List Entry) (p : ProxyState) : Type 0 where
@@ -67,6 +74,10 @@ pub record IsOwn (es : List Entry) (p : ProxyState) : Type 0 where
   pub fresh : AreFresh p.client p.run es
   pub catalog : MatchOption p.known.catalog ⊤ (IsKept es)
   pub recovers : IsTrue (recovers_nothing es)
+
+-- and what is so besides, unless a reply has brought bytes that aren't taken yet
+abbrev pub IsOwnLast : List Entry → ProxyState → Type 0
+IsOwnLast es p = IsOwn es p × KeptIsLast es p.known
 
 -- How far a try has come
 
@@ -87,8 +98,8 @@ JobAsked nodes failed op now before try (Some entries) at.Start = ⊤
 JobAsked nodes failed op now before try (Some entries) job =
     HasAsked failed op before try × AreOverNodes nodes failed now
 
--- the try of the operation under way goes on: nothing refused it, and what its job has read is
--- shown
+-- the try of the operation under way goes on: nothing refused it, what its job has read is shown,
+-- and what it goes by was shown last
 pub record IsOpen (es : List Entry) (known : Known) (w : Work) : Type 0 where
   pub of : IsUnderWay es w.op
   pub try : List Entry
@@ -97,6 +108,7 @@ pub record IsOpen (es : List Entry) (known : Known) (w : Work) : Type 0 where
   pub asked : JobAsked known.nodes w.failed w.op (since_begin es) trying.before try known.catalog
       w.job
   pub shows : JobShows known (since_begin es) try w
+  pub last : KeptIsLast es known × JobIsLast es w.job
 
 -- and nothing is on its way
 abbrev pub IsAtRest : List Entry → Known → Work → Type 0
@@ -135,11 +147,12 @@ IsReadOf e place bytes =
 -- the entry is a Peek of the place that was answered
 abbrev pub IsPeekOf : Entry → Place → List ℕ → Type 0
 IsPeekOf e place bytes =
-    call_in e.node e.what ≡ record {
+    (length bytes ≡ place.length)
+    × (call_in e.node e.what ≡ record {
       node = place.node;
       request = Ask.Peek place.start place.length;
       reply = Say.Peeked bytes;
-    } ∷ []
+    } ∷ [])
 
 -- the newest entry brought these bytes for this purpose, to a try that went on before it: by an
 -- Exec, or by a Peek, in a first try
@@ -192,6 +205,7 @@ MiniFailed es known w c reply =
     → IfLater w.failed (refusal_of c.tid c.mini (participant c c.done) reply ≡ Some busy)
     → WasRefused known.nodes w.op w.failed (since_begin es) busy)
     × ScanShown (since_begin es) w.spoiled w.op w.job × (is_done reply ≡ false)
+    × KeptIsLast es known
 
 -- a minitransaction on its way, the last issue of the operation under way
 pub record MiniAgrees (es : List Entry) (known : Known) (w : Work) (tid : Tid) (c : Coordination)
@@ -210,7 +224,8 @@ abbrev pub PeekedAgrees : List Entry → Known → Work → Place → Purpose �
 PeekedAgrees es known w place purpose (Say.Peeked bytes) = HasRead es known w purpose bytes
 PeekedAgrees es known w place purpose Say.Down =
     IsUnderWay es w.op × IsTrue (list_any (is_down_cause place.node) (calls_of (since_begin es)))
-PeekedAgrees es known w place purpose reply = IsUnderWay es w.op
+    × KeptIsLast es known
+PeekedAgrees es known w place purpose reply = IsUnderWay es w.op × KeptIsLast es known
 
 -- what is on its way for the operation under way
 abbrev pub ErrandAgrees : List Entry → Known → Work → Errand → Type 0
@@ -226,7 +241,7 @@ ErrandAgrees es known w (out.Mini tid c purpose) = MiniAgrees es known w tid c p
 -- The whole
 
 abbrev pub WorksBy : List Entry → ProxyState → Option (Work × Errand) → Type 0
-WorksBy es p None = under_way es ≡ None
+WorksBy es p None = (under_way es ≡ None) × KeptIsLast es p.known
 WorksBy es p (Some (work, errand)) = ErrandAgrees es p.known work errand
 
 -- the client's own list shows what the proxy keeps, and how far its operation has come

@@ -1,6 +1,7 @@
--- What a turn makes of what a proxy keeps, by what was read. A page is put into the cache where it
--- was read, and leaves it for want of room, or in a later try that reads it next. The catalog is
--- kept as it was read last, and goes where a later try begins.
+-- What a turn makes of what a proxy keeps, by what was read. The page of an address that was read
+-- leaves the cache, and an inner page is put in; one leaves besides for want of room, or in a later
+-- try that reads it next. The catalog is kept as it was read last, and goes where a later try
+-- begins. Where there was no memory for what was read, what is kept of its place goes.
 use Rattle.std.specs.Prelude.{ℕ, ◌≡◌, ◌⊎◌, Bool, true, false, List, Option, Some, None}
 use Rattle.std.specs.Prelude.{Result, Ok, Err}
 use Rattle.std.specs.Option.{option_map}
@@ -8,7 +9,7 @@ use Rattle.mn_base.specs.declared.ids.Addr.{Addr}
 use Rattle.mn_base.specs.declared.ids.NodeNo.{NodeNo}
 use Rattle.mn_base.specs.declared.ids.Tid.{Tid}
 use Rattle.mn_base.specs.declared.error.NoMemory.{NoMemory}
-use Rattle.mn_cache.specs.Pages.{pages_without}
+use Rattle.mn_cache.specs.Pages.{page_at, pages_without}
 use Rattle.mn_coord.specs.Coordination.{Coordination, after_step, new_coordination, step_of}
 use Rattle.mn_coord.specs.declared.step.CoordStep.{CoordStep}
 use Rattle.mn_coord.specs.declared.step.CoordStep.TheVariants.{Committed, Send}
@@ -25,8 +26,9 @@ use Rattle.mn_proxy.specs.Turn.{Turn}
 use Rattle.mn_proxy.specs.Turn as turns
 use Rattle.mn_proxy.specs.declared.step.ProxyStep.{ProxyStep}
 use Rattle.mn_proxy.specs.declared.step.ProxyStep.TheVariants as steps
+use Rattle.mn_work.specs.declared.known.Known.{Known}
 use Rattle.mn_work.specs.declared.work.Work.{Work}
-use Rattle.mn_work.specs.Cached.{AreUsed, Puts}
+use Rattle.mn_work.specs.Cached.{AreUsed, Replaces}
 use Rattle.mn_work.specs.Catalogs.{TellsVersions}
 use Rattle.mn_proxy.specs.State.{ProxyState}
 use Rattle.mn_proxy.specs.Turns.{read_alone, with_work}
@@ -52,10 +54,10 @@ read_by errand = None
 
 -- The cache
 
--- a page that was read is put in
+-- a page that was read is put in, in place of an older one
 abbrev pub PutsRead : {T : Type 0} → Option (Purpose × List ℕ) → List (Addr × Page)
     → List (Addr × Page) → Result T NoMemory → Type 0
-PutsRead (Some (by.Page addr, bytes)) before after result = Puts addr bytes before after result
+PutsRead (Some (by.Page addr, bytes)) before after result = Replaces addr bytes before after result
 PutsRead read before after result = after ≡ before
 
 -- the page of which a later try issues a read leaves
@@ -158,6 +160,21 @@ GoesWith work turns.Stops = ⊥
 abbrev pub Reads : Bool → Work → Purpose → Mini → Turn → Type 0
 Reads false work purpose mini turn = Issues work purpose mini turn
 Reads true work purpose mini turn = GoesWith work turn
+
+-- Where there was no memory for what was read
+
+-- what is kept of the place that was read for this purpose is forgotten
+abbrev pub Forgets : Purpose → Known → Known → Type 0
+Forgets by.Catalog old new =
+    new ≡ record { nodes = old.nodes; catalog = None; cache = old.cache }
+Forgets (by.Page addr) old new =
+    (page_at addr new.cache ≡ None)
+    × (new ≡ record {
+      nodes = old.nodes;
+      catalog = old.catalog;
+      cache = pages_without addr old.cache;
+    })
+Forgets purpose old new = new ≡ old
 
 -- Calls
 

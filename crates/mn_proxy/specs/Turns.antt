@@ -39,15 +39,17 @@ use Rattle.mn_proxy.specs.declared.step.ProxyStep.{ProxyStep}
 use Rattle.mn_proxy.specs.declared.step.ProxyStep.TheVariants as steps
 use Rattle.mn_work.specs.declared.work.Work.{Work}
 use Rattle.mn_proxy.specs.Agrees.{AreComparesShown, AreOverNodes, Agrees, Enters, HasOutIn, HasRead}
-use Rattle.mn_proxy.specs.Agrees.{IsAtRest, IsMadeFor, IsOwn, IsSoundStep, IsUnderWay, MayStep}
+use Rattle.mn_proxy.specs.Agrees.{IsAtRest, IsMadeFor, IsOwnLast, IsSoundStep, IsUnderWay}
+use Rattle.mn_proxy.specs.Agrees.{KeptIsLast, MayStep}
 use Rattle.mn_proxy.specs.Issues.{AreClosed}
 use Rattle.mn_proxy.specs.Jobs.{ScanShown}
-use Rattle.mn_work.specs.Knows.{ArePages, KeepsKnown, LearnsOrKeeps}
+use Rattle.mn_work.specs.Knows.{ArePages, KeepsKnown, LearnsOrForgets}
 use Rattle.mn_work.specs.Refusals.{refusal_of}
 use Rattle.mn_proxy.specs.State.{IsOutIn, ProxyState}
 use Rattle.mn_proxy.specs.Tries.{HasAsked, HasNoLeaf, IsTrying, WasRefused, max_tries}
 use Rattle.mn_work.specs.Walks.{IfLater}
-use Rattle.mn_work.specs.Works.{AsksCount, AsksPage, IsJobOf, IsStartable, KeepsOp, TakesCatalog}
+use Rattle.mn_work.specs.Works.{AsksCount, AsksPage, IsJobOf, IsReadIfOn, IsStartable, KeepsOp}
+use Rattle.mn_work.specs.Works.{TakesCatalog}
 use Rattle.mn_work.specs.Works.{TakesCountBytes, TakesPageBytes, counts_of, retried_job}
 
 -- What is so of an operation
@@ -141,7 +143,7 @@ TurnAgrees es p (turns.Goes step work errand) =
     × ((new : List Entry) → Enters es p step new → Agrees new (with_work p work errand))
 TurnAgrees es p (turns.Ends answer) =
     MayStep es p (steps.Done answer)
-    × ((new : List Entry) → Enters es p (steps.Done answer) new → IsOwn new p)
+    × ((new : List Entry) → Enters es p (steps.Done answer) new → IsOwnLast new p)
 TurnAgrees es p turns.Stops = ⊥
 
 -- Tries that failed
@@ -178,7 +180,7 @@ pub record MayRetry (es : List Entry) (known : Known) (w : Work) : Type 0 where
 -- what is kept once the bytes were read for this purpose
 abbrev pub Leaves : Known → Known → Purpose → List ℕ → Type 0
 Leaves old new by.Catalog bytes =
-    (new.nodes ≡ old.nodes) × LearnsOrKeeps bytes old.catalog new.catalog
+    (new.nodes ≡ old.nodes) × LearnsOrForgets bytes new.catalog
 Leaves old new purpose bytes = (new.nodes ≡ old.nodes) × (new.catalog ≡ old.catalog)
 
 -- what they made of the operation
@@ -188,6 +190,7 @@ CameOf old new before after by.Catalog bytes taken =
     × (taken ≡ Taken.GoesOn → IsJobOf new after)
 CameOf old new before after (by.Page addr) bytes taken =
     KeepsKnown old new × KeepsOp before after × TakesPageBytes old addr bytes before after taken
+    × IsReadIfOn addr bytes after.job taken
 CameOf old new before after by.Count bytes taken =
     (new ≡ old) × KeepsOp before after × TakesCountBytes bytes before after taken
 CameOf old new before after (by.Plan reply) bytes taken = ⊥
@@ -239,7 +242,7 @@ pub record IsReadDone (es : List Entry) (known : Known) (w : Work) (reads : List
 abbrev pub IsCommitted : List Entry → Known → Work → List (List (List ℕ)) → Purpose → Type 0
 IsCommitted es known w reads (by.Plan reply) =
     IsUnderWay es w.op × IsTrue (are_settled (since_begin es))
-    × LastPlanReplies es (since_begin es) w.op reply
+    × LastPlanReplies es (since_begin es) w.op reply × KeptIsLast es known
 IsCommitted es known w reads purpose = IsReadDone es known w reads purpose
 
 -- that node was down, or stopped

@@ -14,7 +14,8 @@ ghost use Rattle.mn_proxy.specs.declared.errand.Purpose.{Purpose};
 ghost use Rattle.mn_work.specs.declared.get.Descent.{Descent};
 ghost use Rattle.mn_work.specs.declared.work.Work.{Work};
 ghost use Rattle.mn_proxy.specs.Agrees.{Agrees, BeginsNext, Enters, EntersWant, ErrandAgrees};
-ghost use Rattle.mn_proxy.specs.Agrees.{HasOut, IsOwn, IsSoundStep, MayStep, MayWant, Wants};
+ghost use Rattle.mn_proxy.specs.Agrees.{HasOut, IsOwn, IsOwnLast, IsSoundStep, MayStep, MayWant};
+ghost use Rattle.mn_proxy.specs.Agrees.{Wants};
 ghost use Rattle.mn_proxy.specs.Kept.{CacheGoes, CacheTurns, CatalogGoes, CatalogTurns};
 ghost use Rattle.mn_proxy.specs.Kept.{StepCalls, read_by};
 ghost use Rattle.mn_proxy.specs.Measure.{Falls, GoesBelow, steps_left};
@@ -209,7 +210,8 @@ impl Proxy {
         ensures want { (es : List Entry) → IsOwn es self.old
             → ErrandAgrees es self.old.known work errand → OnErr result (MayWant es) }
         ensures left { (es : List Entry) → IsOwn es self.old
-            → ErrandAgrees es self.old.known work errand → OnErr result (IsOwn es self.new) }
+            → ErrandAgrees es self.old.known work errand
+            → OnErr result (IsOwnLast es self.new) }
         ensures kept { KeepsSelf self.old self.new × OnErr result (self.new.work ≡ None) }
         ensures falls { IfOk (turned self.new.work result)
             (GoesBelow (steps_left (with_work self.old work errand)) self.new) }

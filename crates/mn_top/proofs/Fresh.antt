@@ -1,7 +1,7 @@
 -- The records of nodes that have none make the empty store.
 use Rattle.std.proofs.Common.{◌≡◌, ◌<◌, ◌≤◌, ◌+◌, ◌∷◌, ◌∙◌, ℕ, zero, suc, Bool, true, List, [], length, map, reverse, refl, ap, sym, subst, arith}
 use Rattle.std.specs.Prelude.{nat_eq, slice_index_or}
-use Rattle.std.specs.List.{list_all, range_with_len}
+use Rattle.std.specs.List.{AllByRecursion, list_all, range_with_len}
 use Rattle.std.proofs.lemmas.Bool.{eqb-true}
 use Rattle.mn_base.proofs.Booleans.{left_true}
 use Rattle.mn_base.specs.Store.{empty_store}
@@ -9,10 +9,11 @@ use Rattle.mn_base.specs.declared.ids.NodeNo.{NodeNo}
 use Rattle.mn_forest.specs.Base.{base_memory}
 use Rattle.mn_forest.proofs.BaseStore.{base_holds, spaces_are}
 use Rattle.mn_mini.specs.declared.record.Record.{Record}
-use Rattle.mn_mini.specs.Node.{has_decided_no, has_decided_yes, has_executed, held_parts, space_of, with_held}
+use Rattle.mn_mini.specs.Node.{HeldPart, has_decided_no, has_decided_yes, has_executed, held_parts, space_of, with_held}
 use Rattle.mn_page.specs.Base.{base_of}
 use Rattle.mn_page.specs.Holds.{Holds}
-use Rattle.mn_world.specs.Opened.{AreInPlace, AreSound, is_committed, opened_memory, voted_participants}
+use Rattle.mn_world.specs.Opened.{AreInPlace, AreSound, HeldAreGreater, is_committed, opened_memory, voted_participants}
+use Rattle.mn_world.specs.Places.{WritesWhole, content_in, number_in}
 use Rattle.mn_world.specs.Protocol.{base_at, start_of, start_records}
 use Rattle.mn_world.proofs.Bytes.Bases.{base_there}
 use Rattle.mn_top.specs.Opening.{IsOpenedAs}
@@ -46,6 +47,13 @@ are_sound nodes lists none = record {
       let both = sym (ap (λ (l : List Record). has_decided_no l tid) (none n)) ∙ first in absurd cc;
 }
 
+are_greater : (nodes : ℕ) (bases : NodeNo → List ℕ) (lists : NodeNo → List Record) → ((n : NodeNo) → lists n ≡ []) → HeldAreGreater nodes bases lists
+are_greater nodes bases lists none place numbered low =
+    subst
+    (AllByRecursion (λ (h : HeldPart). is_committed nodes lists h.tid ≡ true
+    → AllByRecursion (WritesWhole place (λ bytes. number_in (content_in (space_of (bases place.node) (lists place.node)) place) < number_in bytes)) h.part))
+    (sym (ap (λ (l : List Record). held_parts l) (none place.node))) tt
+
 -- Their memory
 
 all_same : (f : NodeNo → List ℕ) (g : ℕ → List ℕ) (a n : ℕ) → ((m : NodeNo) → m.0 < a + n → f m ≡ g m.0)
@@ -73,5 +81,6 @@ memory_is records none some =
 pub fresh_opens : (records : List (List Record)) → have_none records ≡ true → 0 < length records → length records ≤ 8 → IsOpenedAs (start_of records) empty_store
 fresh_opens records none some few = record {
   sound = are_sound (length records) (start_records (start_of records)) (no_record records none);
+  greater = are_greater (length records) (base_at (start_of records)) (start_records (start_of records)) (no_record records none);
   holds = subst (λ (m : List (List ℕ)). Holds m empty_store) (sym (memory_is records none some)) (base_holds (length records) some few);
 }

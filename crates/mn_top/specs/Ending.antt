@@ -14,8 +14,8 @@ use Rattle.mn_script.specs.Script.{Script}
 use Rattle.mn_world.specs.declared.entry.Entry.{Entry}
 use Rattle.mn_world.specs.Calls.{node_entries}
 use Rattle.mn_world.specs.Nodes.{is_down}
-use Rattle.mn_world.specs.Opened.{AreSound, opened_memory}
-use Rattle.mn_world.specs.Protocol.{start_of, start_records}
+use Rattle.mn_world.specs.Opened.{AreSound, HeldAreGreater, opened_memory}
+use Rattle.mn_world.specs.Protocol.{base_at, start_of, start_records}
 use Rattle.mn_world.specs.Run.{IsLogOfRun, entries_of}
 use Rattle.mn_top.specs.declared.words.Command.{Command}
 use Rattle.mn_top.specs.declared.due.DamageRule.{DamageRule}
@@ -95,6 +95,8 @@ Misfits records n place Votes = RefusesRecords records (vote.Unvoted (numbered n
 Misfits records n place Both = RefusesRecords records (vote.Both (numbered n) place)
 Misfits records n place (Forest rule) =
     AreSound (length records) (start_records (start_of records))
+    × HeldAreGreater (length records) (base_at (start_of records))
+    (start_records (start_of records))
     × RefusesMemory (opened_memory (start_of records)) (forest.Broken (numbered n) place rule)
 Misfits records n place Runs =
     (n ≡ 0) × (place ≡ 0) × ((store : Store) × IsOpenedAs (start_of records) store

@@ -419,10 +419,10 @@ module _ (kept : List Head) (r : Tried) (a : Attempt) (may : MayBeUnmet kept r a
   unmet_fits law = ap can_plan leaves_are ∙ law kept leaves_state a may.tried.is may.tried.some may.tried.few leaves_order refl
 
   pub unmet_planned : UnmetIsPlanned → (mini : Mini) → mini ≡ plan_of (tried_state true r)
-      → IsPlanOfTx kept a mini
-  unmet_planned law mini made es =
+      → IsPlanOfTx kept a (unmet_reads a) mini
+  unmet_planned law mini made es shown =
       subst (λ (m : Mini). IsPlanned es kept (Tx a.name a.steps) m a.reply) (sym (made ∙ ap plan_of leaves_are))
-      (law kept leaves_state a may.tried.is may.unmet (unmet_apart moves_read kept r.nodes a may.tried.is) leaves_order refl es)
+      (law kept leaves_state a may.tried.is may.unmet (unmet_apart moves_read kept r.nodes a may.tried.is) leaves_order refl es shown)
 
   pub unmet_made : (mini : Mini) → mini ≡ plan_of (tried_state true r) → mini ≡ unmet_items r.nodes a
   unmet_made mini made =
@@ -539,8 +539,8 @@ module _ (kept : List Head) (r : Tried) (p : Placing) (a : Attempt) (may : MayBe
   its_plan mini q = subst (λ (t : State). IsPlanOf t mini) done_are q
 
   pub done_planned : DoneIsPlanned → (mini : Mini)
-      → IsPlanOf (placing_state (tried_state false r) p) mini → IsPlanOfTx kept a mini
-  done_planned law mini q es =
+      → IsPlanOf (placing_state (tried_state false r) p) mini → IsPlanOfTx kept a (done_reads a) mini
+  done_planned law mini q es shown =
       let at = its_plan mini q in
       let done : IsDone r.nodes a = record {
         found = may.found;
@@ -550,7 +550,7 @@ module _ (kept : List Head) (r : Tried) (p : Placing) (a : Attempt) (may : MayBe
         numbers = numbers moves_read placed_are_put kept done_state a is may.long for at.1;
       } in
       subst (λ (m : Mini). IsPlanned es kept (Tx a.name a.steps) m a.reply) (sym at.0)
-      (law kept done_state a is done apart_reads apart_writes reads_order writes_order es)
+      (law kept done_state a is done apart_reads apart_writes reads_order writes_order es shown)
 
   pub done_made : (mini : Mini) → IsPlanOf (placing_state (tried_state false r) p) mini
       → mini ≡ done_items r.nodes a

@@ -27,8 +27,8 @@ use Rattle.mn_page.proofs.Grid.{all_split}
 use Rattle.mn_tree.specs.Trees.{is_noted}
 use Rattle.mn_tree.specs.Moves.{done_in, came_at, leaves_at}
 use Rattle.mn_tree.specs.MoveLaws.{AreTold}
-use Rattle.mn_world.specs.Places.{Place, page_place, entry_place, catalog_node, count_place, IsPagePlace}
-use Rattle.mn_world.specs.Planned.{IsWholePlace, ComeOnce, compare_places, write_places, IsCompared, HasNextNumber, IsPickOf, page_write, WritesPages, PlanActs}
+use Rattle.mn_world.specs.Places.{Place, page_place, entry_place, catalog_node, count_place, front_place, IsPagePlace}
+use Rattle.mn_world.specs.Planned.{IsWholePlace, ComeOnce, compare_places, write_places, IsCompared, IsComparedFront, HasNextNumber, IsPickOf, page_write, WritesPages, PlanActs}
 use Rattle.mn_world.specs.Growth.{GoOn, node_no, addrs_of}
 use Rattle.mn_world.proofs.Plans.PutInPlace.{not_count}
 use Rattle.mn_world.proofs.Plans.SplitRoot.{page_places_apart}
@@ -36,10 +36,11 @@ use Rattle.mn_world.proofs.Plans.Told.{all_there}
 use Rattle.mn_txn.specs.declared.image.Image.{Image}
 use Rattle.mn_txn.specs.State.{is_at, ImagesAreApart}
 use Rattle.mn_txn.specs.Plan.{compare_of, write_of}
-use Rattle.mn_txn.specs.Laws.{image_place}
+use Rattle.mn_txn.specs.Laws.{image_place, image_front}
 use Rattle.mn_txn.specs.Attempt.{Attempt, page_image, came_images, entry_images, count_image}
 use Rattle.mn_txn.proofs.Plans.{compared, written}
-use Rattle.mn_txn.proofs.Lists.{contains_map, mapped_back, noted_has, has_noted, pick_behind}
+use Rattle.mn_txn.proofs.Lists.{contains_map, mapped_back, noted_has, has_noted, pick_behind, pick_mapped}
+use Rattle.mn_world.proofs.Plans.Compares.{fronts_compared}
 
 -- Places of images
 
@@ -106,6 +107,24 @@ module _ (f : Forest) (store : Store) (nodes : ℕ) (a : Attempt) (version : Sto
   abbrev entries : List Place
   entries = if list_any is_change a.steps then entry_place catalog_node a.version.0 ∷ [] else []
 
+  came_fronts : (xs : List Addr) → AllByRecursion (λ x. (p : Page) × (came_at a.moves x ≡ Some p) × (page_at f x ≡ Some p) × IsPage p) xs → map image_front (came_images a.moves xs) ≡ map front_place (map page_place xs)
+  came_fronts [] all = refl
+  came_fronts (x ∷ xs) all =
+      let c = all.0 in
+      ap (λ (o : Option Page). map image_front (option_to_list (option_map (page_image x) o) ++ came_images a.moves xs)) c.1
+      ∙ ap (λ (l : List Place). front_place (page_place x) ∷ l) (came_fronts xs all.1)
+
+  entry_fronts : map image_front (entry_images a) ≡ map front_place entries
+  entry_fronts = by_any (list_any is_change a.steps)
+    where
+      by_any : (t : Bool) → map image_front (if t then record { node = node_no 0; start = 64 + 64 * a.version.0; bytes = entry_bytes a.entry } ∷ [] else []) ≡ map front_place (if t then entry_place catalog_node a.version.0 ∷ [] else [])
+      by_any true = refl
+      by_any false = refl
+
+  count_fronts : (c : ℕ → ℕ) (ns : List ℕ) → map image_front (map (λ n. count_image n (c n)) ns) ≡ map front_place (map (λ n. count_place (node_no n)) ns)
+  count_fronts c [] = refl
+  count_fronts c (n ∷ ns) = ap (λ (l : List Place). front_place (count_place (node_no n)) ∷ l) (count_fronts c ns)
+
   came_places : (xs : List Addr) → AllByRecursion (λ x. (p : Page) × (came_at a.moves x ≡ Some p) × (page_at f x ≡ Some p) × IsPage p) xs → map image_place (came_images a.moves xs) ≡ map page_place xs
   came_places [] all = refl
   came_places (x ∷ xs) all =
@@ -129,12 +148,13 @@ module _ (f : Forest) (store : Store) (nodes : ℕ) (a : Attempt) (version : Sto
   held_places (h ∷ hs) all = ap (λ (p : Place). p ∷ map image_place (map held_image hs)) (page_is h.addr h.page all.0) ∙ ap (λ (l : List Place). page_place h.addr ∷ l) (held_places hs all.1)
 
   module _ (facts : Facts) where
-    compared_are : compare_places mini ≡ map page_place addrs ++ (entries ++ counts)
+    compared_are : compare_places mini ≡ map front_place (map page_place addrs ++ (entries ++ counts))
     compared_are =
-        compared reads writes ∙ (map-append image_place (came_images a.moves addrs) (entry_images a ++ map (λ n. count_image n (was n)) giving)
-        ∙ (ap (λ (l : List Place). l ++ map image_place (entry_images a ++ map (λ n. count_image n (was n)) giving)) (came_places addrs facts.came)
-        ∙ ap (λ (l : List Place). map page_place addrs ++ l) (map-append image_place (entry_images a) (map (λ n. count_image n (was n)) giving)
-        ∙ (ap (λ (l : List Place). l ++ map image_place (map (λ n. count_image n (was n)) giving)) (entry_places facts.entry) ∙ ap (λ (l : List Place). entries ++ l) (counts_are was giving)))))
+        compared reads writes ∙ (map-append image_front (came_images a.moves addrs) (entry_images a ++ map (λ n. count_image n (was n)) giving)
+        ∙ (ap (λ (l : List Place). l ++ map image_front (entry_images a ++ map (λ n. count_image n (was n)) giving)) (came_fronts addrs facts.came)
+        ∙ (ap (λ (l : List Place). map front_place (map page_place addrs) ++ l) (map-append image_front (entry_images a) (map (λ n. count_image n (was n)) giving)
+        ∙ (ap (λ (l : List Place). l ++ map image_front (map (λ n. count_image n (was n)) giving)) entry_fronts ∙ (ap (λ (l : List Place). map front_place entries ++ l) (count_fronts was giving) ∙ sym (map-append front_place entries counts))))
+        ∙ sym (map-append front_place (map page_place addrs) (entries ++ counts)))))
 
     written_are : write_places mini ≡ map page_place (addrs_of (changed ++ new)) ++ counts
     written_are =
@@ -230,8 +250,9 @@ module _ (f : Forest) (store : Store) (nodes : ℕ) (a : Attempt) (version : Sto
         of_page : (x : Addr) × Contains (addrs_of (changed ++ new)) x × (page_place x ≡ place) → Contains (map page_place addrs ++ (entries ++ counts)) place
         of_page (x, has, is) = absurd (not_count x count.0.0 place is count.0.1)
 
-    pub compares_are : (place : Place) → Contains (compare_places mini) place ↔ Compared place
-    compares_are place = (λ c. there place (subst (λ (l : List Place). Contains l place) compared_are c), λ c. subst (λ (l : List Place). Contains l place) (sym compared_are) (back place c))
+    pub compares_are : (range : Place) → Contains (compare_places mini) range ↔ IsComparedFront f store a.version.0 (Tx a.name a.steps) mini range
+    compares_are range = subst (λ (l : List Place). Contains l range ↔ IsComparedFront f store a.version.0 (Tx a.name a.steps) mini range) (sym compared_are)
+        (fronts_compared (map page_place addrs ++ (entries ++ counts)) Compared (λ place. (there place, back place)) range)
 
     -- Numbers
 
@@ -266,13 +287,19 @@ module _ (f : Forest) (store : Store) (nodes : ℕ) (a : Attempt) (version : Sto
       new = new;
       others = counts;
       written = written_are ∙ ap (λ (l : List Addr). map page_place l ++ counts) (map-append (λ (h : Held). h.addr) changed new);
-      as_compared = subst (IsPickOf (map page_place (addrs_of changed))) (sym compared_are) (pick_behind (map page_place (addrs_of changed)) (map page_place addrs) (entries ++ counts) facts.picks);
+      as_compared = subst (IsPickOf (map (λ addr. front_place (page_place addr)) (addrs_of changed))) (sym compared_are)
+          (subst (λ (l : List Place). IsPickOf l (map front_place (map page_place addrs ++ (entries ++ counts)))) (mapped_twice (addrs_of changed))
+          (pick_mapped front_place (map page_place (addrs_of changed)) (map page_place addrs ++ (entries ++ counts)) (pick_behind (map page_place (addrs_of changed)) (map page_place addrs) (entries ++ counts) facts.picks)));
       free = free new facts.news;
       items = items new there_new (all_split (λ h. IsPage h.page) changed new facts.pages).1;
       in_order = facts.ascend;
       no_more = no_more giving;
     }
       where
+        mapped_twice : (xs : List Addr) → map front_place (map page_place xs) ≡ map (λ addr. front_place (page_place addr)) xs
+        mapped_twice [] = refl
+        mapped_twice (x ∷ xs) = ap (λ (l : List Place). front_place (page_place x) ∷ l) (mapped_twice xs)
+
         free : (hs : List Held) → AllByRecursion (λ h. (page_at f h.addr ≡ None) × (h.addr.node.0 < node_count f) × (h.addr.slot < max_slots) × (h.page.seq ≡ 1)) hs → AllByRecursion (λ h. page_at f h.addr ≡ None) hs
         free [] all = tt
         free (h ∷ hs) all = ((all.0).0, free hs all.1)
@@ -314,9 +341,9 @@ module _ (f : Forest) (store : Store) (nodes : ℕ) (a : Attempt) (version : Sto
     acts memory holds same go number effect replies apart = record {
       effect = effect;
       replies = replies;
-      compares = λ w is place.
-          subst (λ k. Contains (compare_places mini) place ↔ IsCompared holds.forest store k (Tx a.name a.steps) mini place) (same_number a.version.0 w (sym number ∙ is))
-          (subst (λ (g : Forest). Contains (compare_places mini) place ↔ IsCompared g store a.version.0 (Tx a.name a.steps) mini place) (sym same) (compares_are place));
+      compares = λ w is range.
+          subst (λ k. Contains (compare_places mini) range ↔ IsComparedFront holds.forest store k (Tx a.name a.steps) mini range) (same_number a.version.0 w (sym number ∙ is))
+          (subst (λ (g : Forest). Contains (compare_places mini) range ↔ IsComparedFront g store a.version.0 (Tx a.name a.steps) mini range) (sym same) (compares_are range));
       nowhere = λ none. absurd (named_not a.version.0 (sym number ∙ none));
       wholes = wholes;
       once = once apart;

@@ -37,6 +37,9 @@ use Rattle.mn_world.specs.Growth.{node_no}
 use Rattle.mn_world.proofs.Meaning.Faults.{same_number}
 use Rattle.mn_txn.specs.declared.error.PlanError.{PlanError}
 use Rattle.mn_txn.specs.declared.error.PlanError.TheVariants.{Worn, NoMemory}
+use Rattle.mn_world.specs.Planned.{IsPlanned}
+use Rattle.mn_world.specs.declared.entry.Entry.{Entry}
+use Rattle.mn_base.specs.declared.reply.Reply.TheVariants as says
 use Rattle.mn_txn.specs.declared.image.Image.{Image}
 use Rattle.mn_txn.specs.State.{State, is_at, joined, bytes_at, ImagesAreApart}
 use Rattle.mn_txn.specs.Order.{in_item_order}
@@ -401,12 +404,16 @@ module _ (used : List CatEntry) (nodes : ℕ) (name child : List ℕ) (version :
     pub snapshot_planned : SnapshotIsPlanned → IsName child
         → refusal (heads_in used) (Snapshot name child) ≡ None → (mini : Mini)
         → IsPlanOf (of_entries (snapshot_entries used version child slot)) mini
-        → SnapshotPlanned used name child mini
+        → SnapshotPlanned used nodes name child root slot mini
     snapshot_planned law right admitted mini p =
         let q = snapshot_shown mini p in
-        let unworn = none_of_two (nat_eq root.seq (2 ^ 64 - 1)) (nat_eq e.seq (2 ^ 64 - 1)) root_at entry_at (sym snapshot_first ∙ q.1) in
-        subst (SnapshotPlanned used name child) (sym q.0)
-        (law (heads_in used) (state_with (snapshot_writes c)) c (is_try right (below_last root.seq page.seq_high unworn.0)) admitted (below_last e.seq entry.seq_high unworn.1) reads_apart snapshot_apart reads_stand snapshot_stand)
+        let unworn = none_of_two (nat_eq root.seq (2 ^ 64 - 1)) (nat_eq e.seq (2 ^ 64 - 1)) root_at entry_at (sym snapshot_first ∙ q.1) in (
+          version,
+          e,
+          is,
+          λ es shown. subst (λ (m : Mini). IsPlanned es (heads_in used) (Snapshot name child) m says.Made) (sym q.0)
+              (law (heads_in used) (state_with (snapshot_writes c)) c (is_try right (below_last root.seq page.seq_high unworn.0)) admitted (below_last e.seq entry.seq_high unworn.1) reads_apart snapshot_apart reads_stand snapshot_stand es shown),
+        )
 
     pub snapshot_made : (mini : Mini)
         → IsPlanOf (of_entries (snapshot_entries used version child slot)) mini
@@ -454,12 +461,16 @@ module _ (used : List CatEntry) (nodes : ℕ) (name child : List ℕ) (version :
     pub branch_planned : BranchIsPlanned → IsName child
         → refusal (heads_in used) (Branch name child) ≡ None → (mini : Mini)
         → IsPlanOf (of_entries (branch_entries used version child slot)) mini
-        → BranchPlanned used name child mini
+        → BranchPlanned used nodes name child root slot mini
     branch_planned law right admitted mini p =
         let q = branch_shown mini p in
-        let unworn = none_of_one (nat_eq root.seq (2 ^ 64 - 1)) root_at (sym branch_first ∙ q.1) in
-        subst (BranchPlanned used name child) (sym q.0)
-        (law (heads_in used) (state_with (branch_writes c)) c (is_try right (below_last root.seq page.seq_high unworn)) admitted reads_apart branch_apart reads_stand branch_stand)
+        let unworn = none_of_one (nat_eq root.seq (2 ^ 64 - 1)) root_at (sym branch_first ∙ q.1) in (
+          version,
+          e,
+          is,
+          λ es shown. subst (λ (m : Mini). IsPlanned es (heads_in used) (Branch name child) m says.Made) (sym q.0)
+              (law (heads_in used) (state_with (branch_writes c)) c (is_try right (below_last root.seq page.seq_high unworn)) admitted reads_apart branch_apart reads_stand branch_stand es shown),
+        )
 
     pub branch_made : (mini : Mini)
         → IsPlanOf (of_entries (branch_entries used version child slot)) mini
@@ -568,9 +579,9 @@ module _ (entries : List CatEntry) (nodes : ℕ) (name child : List ℕ) (versio
       pub snapshot_does : SnapshotIsPlanned → IsName child
           → refusal (heads_in entries) (Snapshot name child) ≡ None
           → IfOk r (IsChildPlan nodes used version root slot es)
-          → IfOk r (SnapshotPlanned entries name child)
+          → IfOk r (SnapshotPlanned entries nodes name child root slot)
       snapshot_does law right admitted ok =
-          IfOk-weaker r (IsChildPlan nodes used version root slot es) (SnapshotPlanned entries name child)
+          IfOk-weaker r (IsChildPlan nodes used version root slot es) (SnapshotPlanned entries nodes name child root slot)
           (λ mini p. snapshot_planned entries nodes name child version may.entry root slot its_version spelled may.page may.made many may.few may.within may.node may.low may.apart stand law right admitted mini (snapshot_told mini p)) ok
 
       pub snapshot_makes : IfOk r (IsChildPlan nodes used version root slot es)
@@ -602,9 +613,9 @@ module _ (entries : List CatEntry) (nodes : ℕ) (name child : List ℕ) (versio
       pub branch_does : BranchIsPlanned → IsName child
           → refusal (heads_in entries) (Branch name child) ≡ None
           → IfOk r (IsChildPlan nodes used version root slot es)
-          → IfOk r (BranchPlanned entries name child)
+          → IfOk r (BranchPlanned entries nodes name child root slot)
       branch_does law right admitted ok =
-          IfOk-weaker r (IsChildPlan nodes used version root slot es) (BranchPlanned entries name child)
+          IfOk-weaker r (IsChildPlan nodes used version root slot es) (BranchPlanned entries nodes name child root slot)
           (λ mini p. branch_planned entries nodes name child version may.entry root slot its_version spelled may.page may.made many may.few may.within may.node may.low may.apart stand law right admitted mini (branch_told mini p)) ok
 
       pub branch_makes : IfOk r (IsChildPlan nodes used version root slot es)

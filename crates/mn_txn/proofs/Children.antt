@@ -29,12 +29,12 @@ use Rattle.mn_base.proofs.VersionTree.{child_admitted}
 use Rattle.mn_base.proofs.Lists.{all_append}
 use Rattle.mn_page.proofs.Spelled.{entry_length}
 use Rattle.mn_tree.proofs.Trees.Puts.{same_itself}
-use Rattle.mn_world.specs.Places.{Place, page_place, entry_place, catalog_node, count_place, IsPagePlace}
+use Rattle.mn_world.specs.Places.{Place, page_place, entry_place, catalog_node, count_place, front_place, IsPagePlace}
 use Rattle.mn_world.specs.declared.entry.Entry.{Entry}
-use Rattle.mn_world.specs.Planned.{IsWholePlace, ComeOnce, compare_places, write_places, IsRootOf, IsWrittenCount, IsCompared, HasNextNumber, IsPickOf, WritesPages, ContinuesCatalog, PlanActs, ComparesHold}
+use Rattle.mn_world.specs.Planned.{IsWholePlace, ComeOnce, compare_places, write_places, IsRootOf, IsWrittenCount, IsCompared, IsComparedFront, HasNextNumber, IsPickOf, WritesPages, ContinuesCatalog, PlanActs, ComparesHold}
 use Rattle.mn_world.specs.Plans.{write_page, write_count}
 use Rattle.mn_world.specs.Growth.{taken_on, AreNextSlots, node_no, count_in, count_writes, AreCounts, AreDifferent, NextSlotsAreFree, over, write_held, Numbered, write_entry, write_numbered, entries_with, entries_after, AreNextEntries, WritesLeaveVersions, AreMet, ComparesTell, NumbersGoOn}
-use Rattle.mn_world.proofs.Plans.Compares.{still_named}
+use Rattle.mn_world.proofs.Plans.Compares.{still_named, fronts_compared}
 use Rattle.mn_world.proofs.Plans.Entries.{with_within, with_behind}
 use Rattle.mn_world.proofs.Plans.Grown.{addr_differs}
 use Rattle.mn_world.proofs.Plans.PutInPlace.{not_count}
@@ -43,13 +43,13 @@ use Rattle.mn_txn.specs.declared.image.Image.{Image}
 use Rattle.mn_txn.specs.State.{image, ImagesAreApart}
 use Rattle.mn_txn.specs.Order.{in_item_order}
 use Rattle.mn_txn.specs.Plan.{plan_of, compare_of, write_of}
-use Rattle.mn_txn.specs.Laws.{image_place, PlansAreInOrder}
+use Rattle.mn_txn.specs.Laws.{image_place, PlansAreInOrder, ReadsAreShown}
 use Rattle.mn_txn.specs.Attempt.{page_image}
 use Rattle.mn_txn.specs.Children.{ChildTry, IsChildTry, entry_image, unused_image, count_read, count_written, root_written, copy_written, child_reads, snapshot_writes, branch_writes, SnapshotIsPlanned, BranchIsPlanned}
 use Rattle.mn_txn.proofs.Attempts.{page_is, same_length, places_once, compares_pass}
-use Rattle.mn_txn.proofs.Known.{nodes_are}
+use Rattle.mn_txn.proofs.Known.{nodes_are, page_shown, entry_shown}
 use Rattle.mn_txn.proofs.Lists.{contains_map}
-use Rattle.mn_txn.proofs.Plans.{compared, written, apart_in_order}
+use Rattle.mn_txn.proofs.Plans.{compared, written, apart_in_order, plan_shown, shown_in_order}
 
 -- The node that gives the slot
 
@@ -141,7 +141,7 @@ entries_written (w ∷ ws) = ap (λ (l : List Item). write_numbered w ∷ l) (en
 -- A try over a memory in which its compares hold
 
 module _ (copies_are_pages : CopiesArePages) (next_slots_are_free : NextSlotsAreFree) (writes_leave_versions : WritesLeaveVersions) (compares_tell : ComparesTell) (numbers_go_on : NumbersGoOn) (kept : List Head) (nodes : ℕ) (c : ChildTry) (is : IsChildTry kept nodes c) (admitted : child_refusal kept c.child ≡ None)
-    (memory : List (List ℕ)) (store : Store) (many : length memory ≡ nodes) (holds : Holds memory store) (on : ContinuesCatalog kept (heads_of store)) (more : List Item) (es : List Entry) (hold : ComparesHold es memory (map compare_of (child_reads c) ++ more)) where
+    (memory : List (List ℕ)) (store : Store) (many : length memory ≡ nodes) (holds : Holds memory store) (on : ContinuesCatalog kept (heads_of store)) (more : List Item) (es : List Entry) (hold : ComparesHold es memory (map compare_of (child_reads c) ++ more)) (was_shown : ReadsAreShown es (child_reads c)) where
   abbrev pub f : Forest
   f = holds.forest
 
@@ -169,7 +169,7 @@ module _ (copies_are_pages : CopiesArePages) (next_slots_are_free : NextSlotsAre
   few_nodes : nodes ≡ node_count f
   few_nodes = sym many ∙ nodes_are memory store holds
 
-  tells : AreMet f (map compare_of (child_reads c) ++ more)
+  tells : AreMet es f (map compare_of (child_reads c) ++ more)
   tells = compares_tell es memory store holds (map compare_of (child_reads c) ++ more) hold
 
   has : (i : Image) → Contains (child_reads c) i → Contains (map compare_of (child_reads c) ++ more) (compare_of i)
@@ -178,13 +178,13 @@ module _ (copies_are_pages : CopiesArePages) (next_slots_are_free : NextSlotsAre
   -- What stands in the memory
 
   root_at : page_at f c.entry.root ≡ Some c.root
-  root_at = tells.pages c.entry.root c.root (has (page_image c.entry.root c.root) (0, omega arith, refl)) (subst (λ k. c.entry.root.node.0 < k) few_nodes is.within) is.root
+  root_at = tells.pages c.entry.root c.root (has (page_image c.entry.root c.root) (0, omega arith, refl)) (page_shown es (child_reads c) c.entry.root c.root was_shown is.root (0, omega arith, refl)) (subst (λ k. c.entry.root.node.0 < k) few_nodes is.within) is.root
 
   pub entry_at : slice_get f.entries v ≡ Some c.entry
-  entry_at = tells.entries v c.entry (has (entry_image c.version c.entry) (1, omega arith, refl)) few is.entry
+  entry_at = tells.entries v c.entry (has (entry_image c.version c.entry) (1, omega arith, refl)) (entry_shown es (child_reads c) v c.entry was_shown is.entry (1, omega arith, refl)) few is.entry
 
   unused : length f.entries ≤ w
-  unused = tells.unused w (has (unused_image c.number) (2, omega arith, refl)) few_kid
+  unused = tells.unused w (has (unused_image c.number) (2, omega arith, refl)) (was_shown.1.1.0 (λ e. absurd (omega (arith, e)))).1 few_kid
 
   count_is : c.slot.slot ≡ count_in f node
   count_is =
@@ -292,11 +292,8 @@ module _ (copies_are_pages : CopiesArePages) (next_slots_are_free : NextSlotsAre
         ap (λ (p : Place). p ∷ map image_place (map numbered_image xs)) (same_length (node_no 0) (64 + 64 * x.0) (length (entry_bytes x.1)) 64 (entry_length x.1 (all.0).1))
         ∙ ap (λ (l : List Place). entry_place catalog_node x.0 ∷ l) (entries_are xs all.1)
 
-    compared_are : compare_places mini ≡ page_place c.entry.root ∷ entry_place catalog_node v ∷ entry_place catalog_node w ∷ count_place (node_no node) ∷ []
-    compared_are =
-        compared (child_reads c) (writes_of c ws)
-        ∙ (ap (λ (p : Place). p ∷ image_place (entry_image c.version c.entry) ∷ entry_place catalog_node w ∷ count_place (node_no node) ∷ []) (page_is c.entry.root c.root is.root)
-        ∙ ap (λ (p : Place). page_place c.entry.root ∷ p ∷ entry_place catalog_node w ∷ count_place (node_no node) ∷ []) (same_length (node_no 0) (64 + 64 * v) (length (entry_bytes c.entry)) 64 (entry_length c.entry is.entry)))
+    compared_are : compare_places mini ≡ map front_place (page_place c.entry.root ∷ entry_place catalog_node v ∷ entry_place catalog_node w ∷ count_place (node_no node) ∷ [])
+    compared_are = compared (child_reads c) (writes_of c ws)
 
     written_are : write_places mini ≡ page_place c.entry.root ∷ page_place c.slot ∷ others
     written_are =
@@ -344,8 +341,9 @@ module _ (copies_are_pages : CopiesArePages) (next_slots_are_free : NextSlotsAre
         of_write (suc zero, l, e) = absurd (not_count c.slot count.0.0 place e count.0.1)
         of_write (suc (suc k), l, e) = only_count count.0.0 place count.0.1 ws (k, omega arith, e)
 
-    pub compares_are : (place : Place) → Contains (compare_places mini) place ↔ Wanted place
-    compares_are place = (λ d. there place (subst (λ (l : List Place). Contains l place) compared_are d), λ d. subst (λ (l : List Place). Contains l place) (sym compared_are) (back place d))
+    pub compares_are : (range : Place) → Contains (compare_places mini) range ↔ ((place : Place) × Wanted place × (range ≡ front_place place))
+    compares_are range = subst (λ (l : List Place). Contains l range ↔ ((place : Place) × Wanted place × (range ≡ front_place place))) (sym compared_are)
+        (fronts_compared (page_place c.entry.root ∷ entry_place catalog_node v ∷ entry_place catalog_node w ∷ count_place (node_no node) ∷ []) Wanted (λ place. (there place, back place)) range)
 
     -- Numbers
 
@@ -384,7 +382,7 @@ module _ (copies_are_pages : CopiesArePages) (next_slots_are_free : NextSlotsAre
       new = new;
       others = others;
       written = written_are;
-      as_compared = subst (IsPickOf (page_place c.entry.root ∷ [])) (sym compared_are) (inl (refl, tt));
+      as_compared = subst (IsPickOf (front_place (page_place c.entry.root) ∷ [])) (sym compared_are) (inl (refl, tt));
       free = ((free.0).0.0, tt);
       items = ((are_pages.1, (5, omega arith, refl)), tt);
       in_order = (tt, tt);
@@ -407,12 +405,12 @@ module _ (copies_are_pages : CopiesArePages) (next_slots_are_free : NextSlotsAre
 
     -- what the operation's plan does
     pub acts : (op : Op) → op_version op ≡ c.name → Holds (memory_after memory mini.items) (applied store op).store → says.Made ≡ (applied store op).reply
-        → ((place : Place) → Contains (compare_places mini) place ↔ IsCompared f store v op mini place) → AllByRecursion (λ (x : Numbered). HasNextNumber memory (write_entry x.0 x.1)) ws → ImagesAreApart (writes_of c ws)
+        → ((range : Place) → Contains (compare_places mini) range ↔ IsComparedFront f store v op mini range) → AllByRecursion (λ (x : Numbered). HasNextNumber memory (write_entry x.0 x.1)) ws → ImagesAreApart (writes_of c ws)
         → PlanActs memory store holds op mini says.Made
     acts op name effect' replies compares of_entries apart' = record {
       effect = effect';
       replies = replies;
-      compares = λ u at place. subst (λ k. Contains (compare_places mini) place ↔ IsCompared f store k op mini place) (same_number v u (sym number ∙ (ap (number_named (heads_of store)) (sym name) ∙ at))) (compares place);
+      compares = λ u at range. subst (λ k. Contains (compare_places mini) range ↔ IsComparedFront f store k op mini range) (same_number v u (sym number ∙ (ap (number_named (heads_of store)) (sym name) ∙ at))) (compares range);
       nowhere = λ none. absurd (named_not v (sym number ∙ (ap (number_named (heads_of store)) (sym name) ∙ none)));
       wholes = wholes;
       once = once apart';
@@ -515,11 +513,12 @@ frozen_one true e = (refl, e)
 frozen_one false e = absurd cc
 
 pub snapshot_is_planned : SnapshotIsShown → CopiesArePages → NextSlotsAreFree → WritesLeaveVersions → ComparesTell → NumbersGoOn → PlansAreInOrder → SnapshotIsPlanned
-snapshot_is_planned snapshot_is_shown copies_are_pages next_slots_are_free writes_leave_versions compares_tell numbers_go_on in_order kept t c is may low apart_reads apart_writes reads_are writes_are es = record {
+snapshot_is_planned snapshot_is_shown copies_are_pages next_slots_are_free writes_leave_versions compares_tell numbers_go_on in_order kept t c is may low apart_reads apart_writes reads_are writes_are es was_shown = record {
+  shown = plan_shown es t was_shown;
   acts = λ memory store many sizes holds on hold.
       subst (λ (m : Mini). PlanActs memory store holds (Snapshot c.name c.child) m says.Made) (sym mini_is)
       (snapshot_acts copies_are_pages next_slots_are_free writes_leave_versions compares_tell numbers_go_on kept t.nodes c is admitted.1 memory store many holds on (map write_of (snapshot_writes c)) es
-      (subst (λ (m : Mini). ComparesHold es memory m.items) mini_is hold) snapshot_is_shown admitted.0 low (subst ImagesAreApart writes_are (apart_in_order t.writes apart_writes)));
+      (subst (λ (m : Mini). ComparesHold es memory m.items) mini_is hold) (subst (ReadsAreShown es) reads_are (shown_in_order es t.reads was_shown)) snapshot_is_shown admitted.0 low (subst ImagesAreApart writes_are (apart_in_order t.writes apart_writes)));
   order = in_order t apart_reads apart_writes;
   kind = tt;
 }
@@ -533,11 +532,12 @@ snapshot_is_planned snapshot_is_shown copies_are_pages next_slots_are_free write
         ∙ ap (λ (ws : List Image). let m : Mini = record { nodes = t.nodes; items = map compare_of (child_reads c) ++ map write_of ws } in m) writes_are
 
 pub branch_is_planned : BranchIsShown → CopiesArePages → NextSlotsAreFree → WritesLeaveVersions → ComparesTell → NumbersGoOn → PlansAreInOrder → BranchIsPlanned
-branch_is_planned branch_is_shown copies_are_pages next_slots_are_free writes_leave_versions compares_tell numbers_go_on in_order kept t c is may apart_reads apart_writes reads_are writes_are es = record {
+branch_is_planned branch_is_shown copies_are_pages next_slots_are_free writes_leave_versions compares_tell numbers_go_on in_order kept t c is may apart_reads apart_writes reads_are writes_are es was_shown = record {
+  shown = plan_shown es t was_shown;
   acts = λ memory store many sizes holds on hold.
       subst (λ (m : Mini). PlanActs memory store holds (Branch c.name c.child) m says.Made) (sym mini_is)
       (branch_acts copies_are_pages next_slots_are_free writes_leave_versions compares_tell numbers_go_on kept t.nodes c is admitted.1 memory store many holds on (map write_of (branch_writes c)) es
-      (subst (λ (m : Mini). ComparesHold es memory m.items) mini_is hold) branch_is_shown admitted.0 (subst ImagesAreApart writes_are (apart_in_order t.writes apart_writes)));
+      (subst (λ (m : Mini). ComparesHold es memory m.items) mini_is hold) (subst (ReadsAreShown es) reads_are (shown_in_order es t.reads was_shown)) branch_is_shown admitted.0 (subst ImagesAreApart writes_are (apart_in_order t.writes apart_writes)));
   order = in_order t apart_reads apart_writes;
   kind = tt;
 }

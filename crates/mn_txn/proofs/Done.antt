@@ -43,9 +43,9 @@ use Rattle.mn_txn.specs.declared.image.Image.{Image}
 use Rattle.mn_txn.specs.State.{ImagesAreApart}
 use Rattle.mn_txn.specs.Order.{in_item_order}
 use Rattle.mn_txn.specs.Plan.{plan_of, compare_of, write_of}
-use Rattle.mn_txn.specs.Laws.{PlansAreInOrder}
+use Rattle.mn_txn.specs.Laws.{PlansAreInOrder, ReadsAreShown}
 use Rattle.mn_txn.specs.Attempt.{Attempt, IsAttempt, IsDone, page_image, count_image, counts_written, done_reads, done_writes, DoneIsPlanned}
-use Rattle.mn_txn.proofs.Plans.{apart_in_order}
+use Rattle.mn_txn.proofs.Plans.{apart_in_order, plan_shown, shown_in_order}
 use Rattle.mn_txn.proofs.Lists.{noted_has, all_noted, pick_some}
 use Rattle.mn_txn.proofs.Found.{InStore, all_done, quiet_pairs, applied_reply, applied_store, applied_nothing}
 use Rattle.mn_txn.proofs.Known.{few_nodes, number, version, shown, none_new, agrees, page_of, entry_of, count_of, told, may, taken_low, gives, small_counts}
@@ -135,7 +135,7 @@ writes_counted c (n ∷ ns) = ap (λ (l : List Item). write_count (node_no n) (c
 
 module _ (moves_tell : MovesTell) (moves_read : MovesRead) (moves_come_once : MovesComeOnce) (moves_are_placed : MovesArePlaced) (quiet_moves : QuietMoves) (reads_are_draft : ReadsAreDraft) (next_slots_are_free : NextSlotsAreFree) (writes_leave_store : WritesLeaveStore) (compares_tell : ComparesTell)
     (numbers_go_on : NumbersGoOn) (kept : List Head) (nodes : ℕ) (a : Attempt) (is : IsAttempt kept nodes a) (dn : IsDone nodes a) (memory : List (List ℕ)) (store : Store) (many : length memory ≡ nodes) (holds : Holds memory store) (on : ContinuesCatalog kept (heads_of store)) (more : List Item)
-    (es : List Entry) (hold : ComparesHold es memory (map compare_of (done_reads a) ++ more)) where
+    (es : List Entry) (hold : ComparesHold es memory (map compare_of (done_reads a) ++ more)) (was_shown : ReadsAreShown es (done_reads a)) where
   abbrev f : Forest
   f = holds.forest
 
@@ -155,7 +155,7 @@ module _ (moves_tell : MovesTell) (moves_read : MovesRead) (moves_come_once : Mo
   reads = moves_read (parents_of kept) a.version a.entry.root a.moves a.draft is.leads
 
   page : (x : Addr) (p : Page) → is_noted a.draft.read x ≡ true → came_at a.moves x ≡ Some p → IsPage p → page_at f x ≡ Some p
-  page = page_of kept nodes a is a.draft.read giving was more memory store many holds on moves_tell moves_read moves_come_once reads_are_draft compares_tell es hold
+  page = page_of kept nodes a is a.draft.read giving was more memory store many holds on moves_tell moves_read moves_come_once reads_are_draft compares_tell es hold was_shown
 
   -- a page of the read set stands in the forest as it came in
   stands : (x : Addr) (p : Page) → is_noted a.draft.read x ≡ true → came_at a.moves x ≡ Some p → (page_at f x ≡ Some p) × IsPage p
@@ -168,11 +168,11 @@ module _ (moves_tell : MovesTell) (moves_read : MovesRead) (moves_come_once : Mo
 
   told_all : AreTold f.entries (page_at f) a.version in_f.version.pairs a.moves a.draft a.steps a.reply
   unfolding in_f
-  told_all = told kept nodes a is a.draft.read giving was more memory store many holds on moves_tell moves_read moves_come_once reads_are_draft compares_tell es hold subset
+  told_all = told kept nodes a is a.draft.read giving was more memory store many holds on moves_tell moves_read moves_come_once reads_are_draft compares_tell es hold was_shown subset
 
   may_run : (in_f.entry.frozen && list_any is_change a.steps) ≡ false
   unfolding in_f
-  may_run = may kept nodes a is a.draft.read giving was more memory store many holds on moves_tell moves_read moves_come_once reads_are_draft compares_tell es hold subset
+  may_run = may kept nodes a is a.draft.read giving was more memory store many holds on moves_tell moves_read moves_come_once reads_are_draft compares_tell es hold was_shown subset
 
   all_run : (steps_run in_f.version.pairs a.steps ≡ a.steps) × ((ran in_f.version.pairs a.steps).pairs ≡ pairs_after in_f.version.pairs a.steps)
   all_run = all_done in_f.version.pairs 1 in_f.version.pairs [] dn.found a.steps (sym told_all.replies ∙ dn.reply)
@@ -187,7 +187,7 @@ module _ (moves_tell : MovesTell) (moves_read : MovesRead) (moves_come_once : Mo
     λ n some.
         let low = taken_low a.counts a.slots n dn.slots.0 some in
         let small = small_counts a.counts n dn.counts.1 in
-        count_of kept nodes a is a.draft.read giving was more memory store many holds on moves_tell moves_read moves_come_once reads_are_draft compares_tell es hold n (gives a.counts a.slots n low some) (subst (λ k. n < k) dn.counts.0 low) (omega arith),
+        count_of kept nodes a is a.draft.read giving was more memory store many holds on moves_tell moves_read moves_come_once reads_are_draft compares_tell es hold was_shown n (gives a.counts a.slots n low some) (subst (λ k. n < k) dn.counts.0 low) (omega arith),
   )
 
   free : AllByRecursion (λ s. (page_at f s ≡ None) × (s.node.0 < node_count f) × (s.node.0 < 8) × (s.slot < max_slots)) a.slots × AreDifferent a.slots
@@ -232,7 +232,7 @@ module _ (moves_tell : MovesTell) (moves_read : MovesRead) (moves_come_once : Mo
           (shown kept nodes a is a.draft.read giving was more memory store many holds on moves_tell moves_read moves_come_once reads_are_draft compares_tell)
           (none_new kept nodes a is a.draft.read giving was more memory store many holds on moves_tell moves_read moves_come_once reads_are_draft compares_tell)
           (agrees kept nodes a is a.draft.read giving was more memory store many holds on moves_tell moves_read moves_come_once reads_are_draft compares_tell) in_f.found
-          (entry_of kept nodes a is a.draft.read giving was more memory store many holds on moves_tell moves_read moves_come_once reads_are_draft compares_tell es hold any)
+          (entry_of kept nodes a is a.draft.read giving was more memory store many holds on moves_tell moves_read moves_come_once reads_are_draft compares_tell es hold was_shown any)
           (ap (λ (l : List Step). a.entry.frozen && list_any is_change l) done_is ∙ is.may) is.leads came_there is.few (subst (AllByRecursion IsStep) (sym done_is) is.steps) (subst (λ (l : List Step). length l ≤ 16) (sym done_is) is.many) dn.slots.1
           (weaker (λ s. (page_at f s ≡ None) × (s.node.0 < node_count f) × (s.node.0 < 8) × (s.slot < max_slots)) IsAddr (λ s all. (all.2, all.3)) a.slots free.0)
           (free_slots (page_at f) a.slots (weaker (λ s. (page_at f s ≡ None) × (s.node.0 < node_count f) × (s.node.0 < 8) × (s.slot < max_slots)) (λ s. (page_at f s ≡ None) × (s.node.0 < 8)) (λ s all. (all.0, all.2)) a.slots free.0) free.1)
@@ -331,11 +331,12 @@ module _ (moves_tell : MovesTell) (moves_read : MovesRead) (moves_come_once : Mo
       (told_all.replies ∙ sym (applied_reply f store a.name a.version.0 a.steps in_f may_run)) (subst ImagesAreApart writes_are apart))
 
 pub done_is_planned : MovesTell → MovesRead → MovesComeOnce → MovesArePlaced → QuietMoves → ReadsAreDraft → NextSlotsAreFree → WritesLeaveStore → ComparesTell → NumbersGoOn → PlansAreInOrder → DoneIsPlanned
-done_is_planned moves_tell moves_read moves_come_once moves_are_placed quiet_moves reads_are_draft next_slots_are_free writes_leave_store compares_tell numbers_go_on in_order kept t a is dn apart_reads apart_writes reads_are writes_are es = record {
+done_is_planned moves_tell moves_read moves_come_once moves_are_placed quiet_moves reads_are_draft next_slots_are_free writes_leave_store compares_tell numbers_go_on in_order kept t a is dn apart_reads apart_writes reads_are writes_are es was_shown = record {
+  shown = plan_shown es t was_shown;
   acts = λ memory store many sizes holds on hold.
       subst (λ (m : Mini). PlanActs memory store holds (Tx a.name a.steps) m a.reply) (sym mini_is)
       (done_acts moves_tell moves_read moves_come_once moves_are_placed quiet_moves reads_are_draft next_slots_are_free writes_leave_store compares_tell numbers_go_on kept t.nodes a is dn memory store many holds on (map write_of (in_item_order t.writes)) es
-      (subst (λ (rs : List Image). ComparesHold es memory (map compare_of rs ++ map write_of (in_item_order t.writes))) reads_are hold) (subst ImagesAreApart writes_are (apart_in_order t.writes apart_writes)));
+      (subst (λ (rs : List Image). ComparesHold es memory (map compare_of rs ++ map write_of (in_item_order t.writes))) reads_are hold) (subst (ReadsAreShown es) reads_are (shown_in_order es t.reads was_shown)) (subst ImagesAreApart writes_are (apart_in_order t.writes apart_writes)));
   order = in_order t apart_reads apart_writes;
   kind = tt;
 }

@@ -1,5 +1,5 @@
 -- What a forest has where the compares of a try are met in its memory.
-use Rattle.std.proofs.Common.{◌≡◌, inl, inr, ℕ, zero, suc, ◌+◌, ◌*◌, ◌^◌, ◌<◌, ◌≤◌, Bool, true, false, not, ◌&&◌, ◌||◌, List, [], ◌∷◌, ◌++◌, map, length, Contains, Option, Some, None, refl, subst, sym, ap, ◌∙◌, arith, slice_get, slice_set, slice_index_or, if◌then◌else◌}
+use Rattle.std.proofs.Common.{◌≡◌, inl, inr, ℕ, zero, suc, ◌+◌, ◌*◌, ◌^◌, ◌<◌, ◌≤◌, Bool, true, false, not, ◌&&◌, ◌||◌, List, [], ◌∷◌, ◌++◌, map, length, take, Contains, Option, Some, None, refl, subst, sym, ap, ◌∙◌, arith, slice_get, slice_set, slice_index_or, if◌then◌else◌}
 use Rattle.std.specs.Prelude.{filter, nat_eq}
 use Rattle.std.specs.List.{AllByRecursion, list_any, range_with_len}
 use Rattle.std.specs.Option.{option_map, option_to_list}
@@ -15,7 +15,8 @@ use Rattle.mn_mini.specs.declared.item.Item.{Item}
 use Rattle.mn_page.specs.declared.page.Page.{Page}
 use Rattle.mn_page.specs.declared.entry.CatEntry.{CatEntry}
 use Rattle.mn_page.specs.Space.{max_slots}
-use Rattle.mn_page.specs.Grammar.{IsPage, entry_bytes}
+use Rattle.mn_page.specs.Grammar.{IsPage, IsEntry, page_bytes, entry_bytes}
+use Rattle.mn_page.proofs.Spelled.{page_length, entry_length}
 use Rattle.mn_page.specs.Forest.{Forest, node_count, laid_of, space_laid, page_at}
 use Rattle.mn_page.specs.Holds.{Holds}
 use Rattle.mn_page.specs.Overlay.{Held, held_at, new_addr}
@@ -27,13 +28,18 @@ use Rattle.mn_tree.specs.MoveLaws.{AgreesWithEntries, AreTold, MovesTell, AreRea
 use Rattle.mn_tree.proofs.Trees.Puts.{addr_is}
 use Rattle.mn_tree.proofs.Trees.Told.{noted_filter}
 use Rattle.mn_world.specs.declared.entry.Entry.{Entry}
+use Rattle.mn_world.specs.Places.{IsNumbered}
+use Rattle.mn_world.specs.Shown.{ShowsLast}
+use Rattle.mn_world.specs.Plans.{ShowsPage, ShowsEntry}
 use Rattle.mn_world.specs.Planned.{ContinuesCatalog, ComparesHold}
+use Rattle.mn_world.proofs.Plans.Told.{all_there}
 use Rattle.mn_world.specs.Growth.{AreNextSlots, taken_on, giving_nodes, node_no, count_in, AreMet, ComparesTell}
 use Rattle.mn_world.proofs.Plans.Compares.{still_named}
 use Rattle.mn_world.proofs.Plans.Kept.{serves_kept}
 use Rattle.mn_world.proofs.Meaning.Kept.{number_within}
 use Rattle.mn_txn.specs.declared.image.Image.{Image}
 use Rattle.mn_txn.specs.Plan.{compare_of}
+use Rattle.mn_txn.specs.Laws.{image_place, ReadsAreShown}
 use Rattle.mn_txn.specs.Attempt.{Attempt, IsAttempt, page_image, came_images, entry_images, count_image}
 use Rattle.mn_txn.proofs.Lists.{contains_map, all_noted}
 use Rattle.mn_txn.proofs.Found.{InStore, in_store}
@@ -82,6 +88,23 @@ contains_range a (suc k) n low high = elim (cases_eq a n) as (λ _. Contains (a 
   | inr off ↦ let c = contains_range (a + 1) k n (omega (arith, off)) (omega arith) in (suc c.0, (let l = c.1 in omega arith), c.2)
 ]
 
+-- What a list has shown of them
+
+abbrev OneShown : List Entry → Image → Type 0
+OneShown es i = (i.start ≡ 16 → ⊥) → IsNumbered (image_place i) × ShowsLast es (image_place i) (take 8 i.bytes) i.bytes
+
+pub page_shown : (es : List Entry) (images : List Image) (x : Addr) (p : Page) → ReadsAreShown es images → IsPage p → Contains images (page_image x p) → ShowsPage es x p
+page_shown es images x p shown spelled has =
+    let one : OneShown es (page_image x p) = all_there (OneShown es) images (page_image x p) shown has in
+    let last = (one (λ e. absurd (omega (arith, e)))).1 in
+    subst (λ (n : ℕ). ShowsLast es (record { node = x.node; start = 20480 + 1024 * x.slot; length = n }) (take 8 (page_bytes p)) (page_bytes p)) (page_length p spelled) last
+
+pub entry_shown : (es : List Entry) (images : List Image) (v : ℕ) (e : CatEntry) → ReadsAreShown es images → IsEntry e → Contains images (record { node = node_no 0; start = 64 + 64 * v; bytes = entry_bytes e }) → ShowsEntry es v e
+entry_shown es images v e shown spelled has =
+    let one : OneShown es (record { node = node_no 0; start = 64 + 64 * v; bytes = entry_bytes e }) = all_there (OneShown es) images (record { node = node_no 0; start = 64 + 64 * v; bytes = entry_bytes e }) shown has in
+    let last = (one (λ g. absurd (omega (arith, g)))).1 in
+    subst (λ (n : ℕ). ShowsLast es (record { node = node_no 0; start = 64 + 64 * v; length = n }) (take 8 (entry_bytes e)) (entry_bytes e)) (entry_length e spelled) last
+
 -- The forest
 
 pub nodes_are : (memory : List (List ℕ)) (store : Store) (holds : Holds memory store) → length memory ≡ node_count holds.forest
@@ -122,28 +145,34 @@ module _ (kept : List Head) (nodes : ℕ) (a : Attempt) (is : IsAttempt kept nod
   pub few_nodes : nodes ≡ node_count f
   few_nodes = sym many ∙ nodes_are memory store holds
 
-  module _ (es : List Entry) (hold : ComparesHold es memory (map compare_of compared ++ more)) where
-    tells : AreMet f (map compare_of compared ++ more)
+  module _ (es : List Entry) (hold : ComparesHold es memory (map compare_of compared ++ more)) (was_shown : ReadsAreShown es compared) where
+    tells : AreMet es f (map compare_of compared ++ more)
     tells = compares_tell es memory store holds (map compare_of compared ++ more) hold
 
     has : (i : Image) → Contains compared i → Contains (map compare_of compared ++ more) (compare_of i)
     has i c = Contains-append_left (map compare_of compared) more (compare_of i) (contains_map compare_of compared i c)
 
+    at_page : (x : Addr) (p : Page) → is_noted addrs x ≡ true → came_at a.moves x ≡ Some p → Contains compared (page_image x p)
+    at_page x p noted came = Contains-append_left (came_images a.moves addrs) (entry_images a ++ map (λ n. count_image n (was n)) giving) (page_image x p) (came_has a.moves addrs x p noted came)
+
+    at_entry : list_any is_change a.steps ≡ true → Contains compared (record { node = node_no 0; start = 64 + 64 * a.version.0; bytes = entry_bytes a.entry })
+    at_entry any =
+        Contains-append_right (came_images a.moves addrs) (entry_images a ++ map (λ n. count_image n (was n)) giving) (image_of a) (Contains-append_left (entry_images a) (map (λ n. count_image n (was n)) giving) (image_of a)
+        (subst (λ t. Contains (if t then image_of a ∷ [] else []) (image_of a)) (sym any) (0, omega arith, refl)))
+      where
+        image_of : Attempt → Image
+        image_of b = record { node = node_no 0; start = 64 + 64 * b.version.0; bytes = entry_bytes b.entry }
+
     -- a page that was compared
     pub page_of : (x : Addr) (p : Page) → is_noted addrs x ≡ true → came_at a.moves x ≡ Some p → IsPage p → page_at f x ≡ Some p
     page_of x p noted came spelled =
-        tells.pages x p (has (page_image x p) (Contains-append_left (came_images a.moves addrs) (entry_images a ++ map (λ n. count_image n (was n)) giving) (page_image x p) (came_has a.moves addrs x p noted came)))
+        tells.pages x p (has (page_image x p) (at_page x p noted came)) (page_shown es compared x p was_shown spelled (at_page x p noted came))
         (subst (λ k. x.node.0 < k) few_nodes (came_of (λ h. h.addr.node.0 < nodes) (comes_in a.moves) x p is.within came)) spelled
 
     -- the version's entry
     pub entry_of : list_any is_change a.steps ≡ true → slice_get f.entries a.version.0 ≡ Some a.entry
     entry_of any =
-        tells.entries a.version.0 a.entry
-        (has _ (Contains-append_right (came_images a.moves addrs) (entry_images a ++ map (λ n. count_image n (was n)) giving) (image_of a) (Contains-append_left (entry_images a) (map (λ n. count_image n (was n)) giving) (image_of a)
-        (subst (λ t. Contains (if t then image_of a ∷ [] else []) (image_of a)) (sym any) (0, omega arith, refl))))) is.few is.entry
-      where
-        image_of : Attempt → Image
-        image_of b = record { node = node_no 0; start = 64 + 64 * b.version.0; bytes = entry_bytes b.entry }
+        tells.entries a.version.0 a.entry (has _ (at_entry any)) (entry_shown es compared a.version.0 a.entry was_shown is.entry (at_entry any)) is.few is.entry
 
     pub count_of : (n : ℕ) → Contains giving n → n < nodes → was n < 2 ^ 64 → was n ≡ count_in f n
     count_of n gives low small =

@@ -71,3 +71,9 @@ pick_some place_of t (a ∷ addrs) = by_test (t a) (pick_some place_of t addrs)
     by_test : (b : Bool) → IsPickOf (map place_of (filter t addrs)) (map place_of addrs) → IsPickOf (map place_of (if b then a ∷ filter t addrs else filter t addrs)) (place_of a ∷ map place_of addrs)
     by_test true rest = inl (refl, rest)
     by_test false rest = passes_on (map place_of (filter t addrs)) rest
+
+pub pick_mapped : (f : Place → Place) (xs places : List Place) → IsPickOf xs places → IsPickOf (map f xs) (map f places)
+pick_mapped f [] places picks = tt
+pick_mapped f (x ∷ xs) [] picks = absurd picks
+pick_mapped f (x ∷ xs) (place ∷ places) (inl same) = inl (ap f same.0, pick_mapped f xs places same.1)
+pick_mapped f (x ∷ xs) (place ∷ places) (inr later) = inr (pick_mapped f (x ∷ xs) places later)

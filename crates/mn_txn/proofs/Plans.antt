@@ -1,5 +1,5 @@
 -- The laws of plans.
-use Rattle.std.proofs.Common.{◌≡◌, ◌↔◌, ℕ, Bool, true, false, cond, ◌&&◌, ◌||◌, nat_eq, nat_lt, List, [], ◌∷◌, ◌++◌, filter, map, Contains, refl, sym, ap, subst, ◌∙◌, arith}
+use Rattle.std.proofs.Common.{◌≡◌, ◌↔◌, ℕ, zero, suc, take, Bool, true, false, cond, ◌&&◌, ◌||◌, nat_eq, nat_lt, List, [], ◌∷◌, ◌++◌, filter, map, Contains, refl, sym, ap, subst, ◌∙◌, arith}
 use Rattle.std.specs.List.{AllByRecursion, flat_map}
 use Rattle.std.specs.List.Sorted.{IsPermutation}
 use Rattle.std.specs.Ordering.{is_lt}
@@ -9,8 +9,11 @@ use Rattle.std.proofs.lemmas.List.Sorted.{IsPermutation-refl, IsPermutation-sym,
 use Rattle.mn_base.proofs.Booleans.{both_true}
 use Rattle.mn_mini.specs.declared.item.Item.{Item}
 use Rattle.mn_mini.specs.declared.item.Item.TheVariants.{Compare, Write}
-use Rattle.mn_world.specs.Places.{Place}
-use Rattle.mn_world.specs.Planned.{compare_place, write_place, compare_places, write_places, place_rank, may_precede, are_in_order}
+use Rattle.mn_world.specs.declared.entry.Entry.{Entry}
+use Rattle.mn_world.specs.Places.{Place, IsNumbered}
+use Rattle.mn_world.specs.Shown.{ShowsLast, ShowsNumber}
+use Rattle.mn_world.proofs.Plans.Compares.{shows_front, count_front}
+use Rattle.mn_world.specs.Planned.{compare_place, write_place, compare_places, write_places, place_rank, may_precede, are_in_order, IsNextNumber, OnNumber}
 use Rattle.mn_txn.specs.declared.image.Image.{Image}
 use Rattle.mn_txn.specs.declared.image.Turn.{Turn}
 use Rattle.mn_txn.specs.State.{State, is_at, ImagesAreApart}
@@ -106,9 +109,9 @@ no_compares : (ys : List Image) → flat_map compare_place (map write_of ys) ≡
 no_compares [] = refl
 no_compares (y ∷ ys) = no_compares ys
 
-pub compared : (xs ys : List Image) → flat_map compare_place (map compare_of xs ++ map write_of ys) ≡ map laws.image_place xs
+pub compared : (xs ys : List Image) → flat_map compare_place (map compare_of xs ++ map write_of ys) ≡ map laws.image_front xs
 compared [] ys = no_compares ys
-compared (x ∷ xs) ys = ap (λ l. laws.image_place x ∷ l) (compared xs ys)
+compared (x ∷ xs) ys = ap (λ l. laws.image_front x ∷ l) (compared xs ys)
 
 only_writes : (ys : List Image) → flat_map write_place (map write_of ys) ≡ map laws.image_place ys
 only_writes [] = refl
@@ -121,22 +124,22 @@ written (x ∷ xs) ys = written xs ys
 pub their_places : laws.PlansNameTheirPlaces
 their_places t = (compared (in_item_order t.reads) (in_item_order t.writes), written (in_item_order t.reads) (in_item_order t.writes))
 
-among : (xs : List Image) (ps : List Place) (place : Place) → ps ≡ map laws.image_place (in_item_order xs) → Contains ps place ↔ Contains (map laws.image_place xs) place
-among xs ps place e =
-    let p = IsPermutation-map laws.image_place xs (in_item_order xs) (same_images xs) in
-    let back = IsPermutation-sym (map laws.image_place xs) (map laws.image_place (in_item_order xs)) p in (
-      λ c. Contains-permutation (map laws.image_place (in_item_order xs)) (map laws.image_place xs) place back (subst (λ (l : List Place). Contains l place) e c),
-      λ c. subst (λ (l : List Place). Contains l place) (sym e) (Contains-permutation (map laws.image_place xs) (map laws.image_place (in_item_order xs)) place p c),
+among : (f : Image → Place) (xs : List Image) (ps : List Place) (place : Place) → ps ≡ map f (in_item_order xs) → Contains ps place ↔ Contains (map f xs) place
+among f xs ps place e =
+    let p = IsPermutation-map f xs (in_item_order xs) (same_images xs) in
+    let back = IsPermutation-sym (map f xs) (map f (in_item_order xs)) p in (
+      λ c. Contains-permutation (map f (in_item_order xs)) (map f xs) place back (subst (λ (l : List Place). Contains l place) e c),
+      λ c. subst (λ (l : List Place). Contains l place) (sym e) (Contains-permutation (map f xs) (map f (in_item_order xs)) place p c),
     )
 
 pub no_other : laws.PlansNameNoOther
-no_other t place = (among t.reads (compare_places (plan_of t)) place (their_places t).0, among t.writes (write_places (plan_of t)) place (their_places t).1)
+no_other t place = (among laws.image_front t.reads (compare_places (plan_of t)) place (their_places t).0, among laws.image_place t.writes (write_places (plan_of t)) place (their_places t).1)
 
 -- Items
 
 all_compares : (t : State) (xs : List Image) (more : List Item) → AllByRecursion (Contains t.reads) xs → AllByRecursion (laws.IsItemOf t) more → AllByRecursion (laws.IsItemOf t) (map compare_of xs ++ more)
 all_compares t [] more a b = b
-all_compares t (x ∷ xs) more a b = (a.0, all_compares t xs more a.1 b)
+all_compares t (x ∷ xs) more a b = ((x.bytes, a.0, refl), all_compares t xs more a.1 b)
 
 all_writes : (t : State) (xs : List Image) → AllByRecursion (Contains t.writes) xs → AllByRecursion (laws.IsItemOf t) (map write_of xs)
 all_writes t [] a = tt
@@ -151,4 +154,41 @@ their_bytes t = all_compares t (in_item_order t.reads) (map write_of (in_item_or
 pub count_on : laws.PlansCountOn
 count_on t h node start old new c w other =
     let all = All-from_recursion (laws.IsItemOf t) (plan_of t).items (their_bytes t) in
-    h node start old new (All-contains (laws.IsItemOf t) (plan_of t).items (Compare node start old) all c) (All-contains (laws.IsItemOf t) (plan_of t).items (Write node start new) all w) other
+    let was = All-contains (laws.IsItemOf t) (plan_of t).items (Compare node start old) all c in
+    front was.0 (h node start was.0 new was.1 (All-contains (laws.IsItemOf t) (plan_of t).items (Write node start new) all w) other) was.2
+  where
+    take_twice : (n : ℕ) (xs : List ℕ) → take n (take n xs) ≡ take n xs
+    take_twice zero xs = refl
+    take_twice (suc n) [] = refl
+    take_twice (suc n) (x ∷ xs) = ap (λ (l : List ℕ). x ∷ l) (take_twice n xs)
+
+    front : (whole : List ℕ) → IsNextNumber whole new → old ≡ take 8 whole → IsNextNumber old new
+    front whole (k, few, begins, next) is = (k, few, ap (take 8) is ∙ (take_twice 8 whole ∙ begins), next)
+
+-- What the list has shown
+
+item_shown : (es : List Entry) (i : Image) → ((i.start ≡ 16 → ⊥) → IsNumbered (laws.image_place i) × ShowsLast es (laws.image_place i) (take 8 i.bytes) i.bytes) → OnNumber (ShowsNumber es) (compare_of i)
+item_shown es i shown = by (nat_eq i.start 16) refl
+  where
+    off : (a : ℕ) → nat_eq a 16 ≡ false → a ≡ 16 → ⊥
+    off a e same = grind (arith, nat_tests)
+
+    by : (b : Bool) → nat_eq i.start 16 ≡ b → OnNumber (ShowsNumber es) (compare_of i)
+    by true e = count_front es i.node i.start (take 8 i.bytes) (grind (arith, nat_tests))
+    by false e = let s = shown (off i.start e) in shows_front es (laws.image_place i) (take 8 i.bytes) i.bytes s.0 s.1
+
+-- of each number that a plan compares the list shows the place
+pub plan_shown : (es : List Entry) (t : State) → laws.ReadsAreShown es t.reads → AllByRecursion (OnNumber (ShowsNumber es)) (plan_of t).items
+plan_shown es t shown = both (in_item_order t.reads) (in_item_order t.writes) (all_in_order (λ i. (i.start ≡ 16 → ⊥) → IsNumbered (laws.image_place i) × ShowsLast es (laws.image_place i) (take 8 i.bytes) i.bytes) t.reads shown)
+  where
+    writes : (ys : List Image) → AllByRecursion (OnNumber (ShowsNumber es)) (map write_of ys)
+    writes [] = tt
+    writes (y ∷ ys) = (tt, writes ys)
+
+    both : (xs ys : List Image) → laws.ReadsAreShown es xs → AllByRecursion (OnNumber (ShowsNumber es)) (map compare_of xs ++ map write_of ys)
+    both [] ys all = writes ys
+    both (x ∷ xs) ys all = (item_shown es x all.0, both xs ys all.1)
+
+-- and so in the order of items
+pub shown_in_order : (es : List Entry) (xs : List Image) → laws.ReadsAreShown es xs → laws.ReadsAreShown es (in_item_order xs)
+shown_in_order es xs shown = all_in_order (λ i. (i.start ≡ 16 → ⊥) → IsNumbered (laws.image_place i) × ShowsLast es (laws.image_place i) (take 8 i.bytes) i.bytes) xs shown

@@ -1,6 +1,8 @@
 -- The items of a plan are sound.
-use Rattle.std.proofs.Common.{◌≡◌, ℕ, zero, suc, ◌+◌, Bool, true, false, cond, nat_lt, nat_le, ltb-true, leb-true, List, [], ◌∷◌, ◌++◌, length, map, refl, ap, arith, length-append}
+use Rattle.std.proofs.Common.{◌≡◌, ℕ, zero, suc, ◌+◌, Bool, true, false, cond, nat_lt, nat_le, ltb-true, leb-true, List, [], ◌∷◌, ◌++◌, length, take, map, refl, ap, arith, length-append}
 use Rattle.std.specs.List.{AllByRecursion}
+use Rattle.std.specs.Prelude.{min}
+use Rattle.std.proofs.lemmas.List.{length-take}
 use Rattle.mn_base.proofs.Booleans.{both_parts}
 use Rattle.mn_mini.specs.declared.item.Item.{Item}
 use Rattle.mn_mini.specs.declared.error.MiniError.{MiniError}
@@ -47,7 +49,16 @@ all_inside nodes (x ∷ xs) h = let two = both_parts (is_inside nodes x) (are_in
 
 all_compares : (nodes : ℕ) (xs : List Image) (more : List Item) → AllByRecursion (IsInside nodes) xs → AllByRecursion (IsSoundItem nodes) more → AllByRecursion (IsSoundItem nodes) (map compare_of xs ++ more)
 all_compares nodes [] more a b = b
-all_compares nodes (x ∷ xs) more a b = (a.0, all_compares nodes xs more a.1 b)
+all_compares nodes (x ∷ xs) more a b = ((a.0.0, front a.0.1), all_compares nodes xs more a.1 b)
+  where
+    -- the front of bytes inside the space lies there too
+    front : IsInSpace x.start (length x.bytes) → IsInSpace x.start (length (take 8 x.bytes))
+    front inside =
+        let n : length (take 8 x.bytes) ≡ min 8 (length x.bytes) = length-take 8 x.bytes in
+        let low = inside.0 in
+        let high = inside.1 in
+        let ends = inside.2 in
+        (omega (arith, n, low), omega (arith, n, high), omega (arith, n, ends))
 
 all_writes : (nodes : ℕ) (xs : List Image) → AllByRecursion (IsInside nodes) xs → AllByRecursion (IsSoundItem nodes) (map write_of xs)
 all_writes nodes [] a = tt

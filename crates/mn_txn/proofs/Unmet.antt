@@ -25,11 +25,12 @@ use Rattle.mn_txn.specs.declared.image.Image.{Image}
 use Rattle.mn_txn.specs.State.{ImagesAreApart}
 use Rattle.mn_txn.specs.Order.{in_item_order}
 use Rattle.mn_txn.specs.Plan.{plan_of, compare_of, write_of}
-use Rattle.mn_txn.specs.Laws.{PlansAreInOrder}
+use Rattle.mn_txn.specs.Laws.{PlansAreInOrder, ReadsAreShown}
 use Rattle.mn_txn.specs.Attempt.{Attempt, IsAttempt, IsUnmet, came_images, entry_images, unmet_reads, UnmetIsPlanned}
 use Rattle.mn_txn.proofs.Lists.{all_noted}
 use Rattle.mn_txn.proofs.Found.{InStore, one_unmet, applied_reply, applied_nothing}
 use Rattle.mn_txn.proofs.Known.{number, version, page_of, told, may}
+use Rattle.mn_txn.proofs.Plans.{plan_shown, shown_in_order}
 use Rattle.mn_txn.proofs.Attempts.{Facts, acts, compares_pass}
 
 module _ (moves_tell : MovesTell) (moves_read : MovesRead) (moves_come_once : MovesComeOnce) (reads_are_draft : ReadsAreDraft) (compares_tell : ComparesTell) (numbers_go_on : NumbersGoOn) (kept : List Head) (nodes : ℕ) (a : Attempt) (is : IsAttempt kept nodes a) (un : IsUnmet a) (memory : List (List ℕ)) (store : Store)
@@ -52,14 +53,14 @@ module _ (moves_tell : MovesTell) (moves_read : MovesRead) (moves_come_once : Mo
   reads : AreReads a.moves a.draft
   reads = moves_read (parents_of kept) a.version a.entry.root a.moves a.draft is.leads
 
-  module _ (es : List Entry) (hold : ComparesHold es memory (map compare_of compared ++ [])) where
+  module _ (es : List Entry) (hold : ComparesHold es memory (map compare_of compared ++ [])) (was_shown : ReadsAreShown es compared) where
     told_all : AreTold f.entries (page_at f) a.version in_f.version.pairs a.moves a.draft a.steps a.reply
     unfolding in_f
-    told_all = told kept nodes a is addrs [] no_count [] memory store many holds on moves_tell moves_read moves_come_once reads_are_draft compares_tell es hold (λ x noted. noted)
+    told_all = told kept nodes a is addrs [] no_count [] memory store many holds on moves_tell moves_read moves_come_once reads_are_draft compares_tell es hold was_shown (λ x noted. noted)
 
     may_run : (in_f.entry.frozen && list_any is_change a.steps) ≡ false
     unfolding in_f
-    may_run = may kept nodes a is addrs [] no_count [] memory store many holds on moves_tell moves_read moves_come_once reads_are_draft compares_tell es hold (λ x noted. noted)
+    may_run = may kept nodes a is addrs [] no_count [] memory store many holds on moves_tell moves_read moves_come_once reads_are_draft compares_tell es hold was_shown (λ x noted. noted)
 
     facts : Facts f store nodes a in_f.version addrs [] [] [] no_count no_count
     facts = record {
@@ -69,7 +70,7 @@ module _ (moves_tell : MovesTell) (moves_read : MovesRead) (moves_come_once : Mo
       came = all_noted (λ x. (p : Page) × (came_at a.moves x ≡ Some p) × (page_at f x ≡ Some p) × IsPage p) addrs (λ x noted.
           let parts = and_parts (is_leaf_at a.moves x) (is_noted a.draft.read x) (sym (noted_filter (is_leaf_at a.moves) a.draft.read x) ∙ noted) in
           let c = reads.came x parts.1 in
-          (c.0, c.1, page_of kept nodes a is addrs [] no_count [] memory store many holds on moves_tell moves_read moves_come_once reads_are_draft compares_tell es hold x c.0 noted c.1 c.2, c.2));
+          (c.0, c.1, page_of kept nodes a is addrs [] no_count [] memory store many holds on moves_tell moves_read moves_come_once reads_are_draft compares_tell es hold was_shown x c.0 noted c.1 c.2, c.2));
       sorts = λ x noted. inl noted;
       leaves = λ x noted. noted;
       changes = tt;
@@ -89,11 +90,12 @@ module _ (moves_tell : MovesTell) (moves_read : MovesRead) (moves_come_once : Mo
         (told_all.replies ∙ sym (applied_reply f store a.name a.version.0 a.steps in_f may_run)) tt
 
 pub unmet_is_planned : MovesTell → MovesRead → MovesComeOnce → ReadsAreDraft → ComparesTell → NumbersGoOn → PlansAreInOrder → UnmetIsPlanned
-unmet_is_planned moves_tell moves_read moves_come_once reads_are_draft compares_tell numbers_go_on in_order kept t a is un apart_reads reads_are no_writes es = record {
+unmet_is_planned moves_tell moves_read moves_come_once reads_are_draft compares_tell numbers_go_on in_order kept t a is un apart_reads reads_are no_writes es was_shown = record {
+  shown = plan_shown es t was_shown;
   acts = λ memory store many sizes holds on hold.
       subst (λ (m : Mini). PlanActs memory store holds (Tx a.name a.steps) m a.reply) (sym mini_is)
       (unmet_acts moves_tell moves_read moves_come_once reads_are_draft compares_tell numbers_go_on kept t.nodes a is un memory store many holds on es
-      (subst (λ (m : Mini). ComparesHold es memory m.items) mini_is hold));
+      (subst (λ (m : Mini). ComparesHold es memory m.items) mini_is hold) (subst (ReadsAreShown es) (reads_are ∙ all_reads) (shown_in_order es t.reads was_shown)));
   order = in_order t apart_reads (subst ImagesAreApart (sym no_writes) tt);
   kind = tt;
 }

@@ -28,6 +28,7 @@ use Rattle.mn_txn.specs.declared.image.Image.{Image}
 use Rattle.mn_txn.specs.State.{State, image, ImagesAreApart}
 use Rattle.mn_txn.specs.Order.{in_item_order}
 use Rattle.mn_txn.specs.Plan.{plan_of}
+use Rattle.mn_txn.specs.Laws.{ReadsAreShown}
 
 -- the version and its entry as they were read, the steps, how they came to their pages and what
 -- they found; the counts of the nodes, and slots for the new pages
@@ -120,13 +121,15 @@ DoneIsPlanned =
     (kept : List Head) (t : State) (a : Attempt) → IsAttempt kept t.nodes a → IsDone t.nodes a
     → ImagesAreApart t.reads → ImagesAreApart t.writes → in_item_order t.reads ≡ done_reads a
     → in_item_order t.writes ≡ done_writes a
-    → (es : List Entry) → IsPlanned es kept (Tx a.name a.steps) (plan_of t) a.reply
+    → (es : List Entry) → ReadsAreShown es t.reads
+    → IsPlanned es kept (Tx a.name a.steps) (plan_of t) a.reply
 
 abbrev pub UnmetIsPlanned : Type 0
 UnmetIsPlanned =
     (kept : List Head) (t : State) (a : Attempt) → IsAttempt kept t.nodes a → IsUnmet a
     → ImagesAreApart t.reads → in_item_order t.reads ≡ unmet_reads a → t.writes ≡ []
-    → (es : List Entry) → IsPlanned es kept (Tx a.name a.steps) (plan_of t) a.reply
+    → (es : List Entry) → ReadsAreShown es t.reads
+    → IsPlanned es kept (Tx a.name a.steps) (plan_of t) a.reply
 
 -- Order
 

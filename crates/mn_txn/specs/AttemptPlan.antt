@@ -27,6 +27,7 @@ use Rattle.mn_txn.specs.declared.image.Image.{Image}
 use Rattle.mn_txn.specs.declared.seen.SeenPage.{SeenPage}
 use Rattle.mn_txn.specs.State.{State, image}
 use Rattle.mn_txn.specs.Plan.{compare_of, write_of}
+use Rattle.mn_txn.specs.Laws.{ReadsAreShown}
 use Rattle.mn_txn.specs.Attempt.{Attempt, IsAttempt, IsUnmet, count_image, page_image}
 use Rattle.mn_txn.specs.Attempt.{done_reads, done_writes, unmet_reads}
 use Rattle.mn_txn.specs.Children.{entry_image}
@@ -71,19 +72,24 @@ pub record MayBeUnmet (kept : List Head) (r : Tried) (a : Attempt) : Type 0 wher
 
 -- The plan
 
--- it does what the transaction does, wherever its compares hold, for a client with any list
-abbrev pub IsPlanOfTx : List Head → Attempt → Mini → Type 0
-IsPlanOfTx kept a mini = (es : List Entry) → IsPlanned es kept (Tx a.name a.steps) mini a.reply
+-- it does what the transaction does, wherever its compares hold, for a client whose list has shown
+-- these images last
+abbrev pub IsPlanOfTx : List Head → Attempt → List Image → Mini → Type 0
+IsPlanOfTx kept a reads mini =
+    (es : List Entry) → ReadsAreShown es reads
+    → IsPlanned es kept (Tx a.name a.steps) mini a.reply
 
 -- so it does for each attempt that has read and is to write this
 abbrev pub DonePlanned : Tried → Placing → Mini → Type 0
 DonePlanned r p mini =
-    (kept : List Head) (a : Attempt) → MayBeDone kept r p a → IsPlanOfTx kept a mini
+    (kept : List Head) (a : Attempt) → MayBeDone kept r p a
+    → IsPlanOfTx kept a (done_reads a) mini
 
 -- and for each with an unmet Check that has read this
 abbrev pub UnmetPlanned : Tried → Mini → Type 0
 UnmetPlanned r mini =
-    (kept : List Head) (a : Attempt) → MayBeUnmet kept r a → IsPlanOfTx kept a mini
+    (kept : List Head) (a : Attempt) → MayBeUnmet kept r a
+    → IsPlanOfTx kept a (unmet_reads a) mini
 
 -- what an attempt compares, then what it writes, over so many nodes
 abbrev pub done_items : ℕ → Attempt → Mini

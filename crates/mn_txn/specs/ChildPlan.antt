@@ -26,6 +26,7 @@ use Rattle.mn_txn.specs.declared.image.Image.{Image}
 use Rattle.mn_txn.specs.State.{State, joined}
 use Rattle.mn_txn.specs.Order.{in_item_order}
 use Rattle.mn_txn.specs.Plan.{RefusesPlan, can_plan, compare_of, first_worn, plan_of, write_of}
+use Rattle.mn_txn.specs.Laws.{ReadsAreShown}
 use Rattle.mn_txn.specs.Attempt.{count_image, page_image}
 use Rattle.mn_txn.specs.Children.{ChildTry, entry_image, unused_image}
 use Rattle.mn_txn.specs.Children.{child_reads, snapshot_writes, branch_writes}
@@ -68,16 +69,22 @@ child_try entries nodes name child version entry root slot = record {
   slot = slot;
 }
 
--- it does what the Snapshot does, wherever its compares hold, by these entries, for a client with
--- any list
-abbrev pub SnapshotPlanned : List CatEntry → List ℕ → List ℕ → Mini → Type 0
-SnapshotPlanned entries name child mini =
-    (es : List Entry) → IsPlanned es (heads_in entries) (Snapshot name child) mini Made
+-- it does what the Snapshot does, wherever its compares hold, by these entries, for a client whose
+-- list has shown last what it compares
+abbrev pub SnapshotPlanned : List CatEntry → ℕ → List ℕ → List ℕ → Page → Addr → Mini → Type 0
+SnapshotPlanned entries nodes name child root slot mini =
+    (version : VersionNo) × (entry : CatEntry) × IsVersion entries name version entry
+    × ((es : List Entry)
+    → ReadsAreShown es (child_reads (child_try entries nodes name child version entry root slot))
+    → IsPlanned es (heads_in entries) (Snapshot name child) mini Made)
 
 -- and what the Branch does
-abbrev pub BranchPlanned : List CatEntry → List ℕ → List ℕ → Mini → Type 0
-BranchPlanned entries name child mini =
-    (es : List Entry) → IsPlanned es (heads_in entries) (Branch name child) mini Made
+abbrev pub BranchPlanned : List CatEntry → ℕ → List ℕ → List ℕ → Page → Addr → Mini → Type 0
+BranchPlanned entries nodes name child root slot mini =
+    (version : VersionNo) × (entry : CatEntry) × IsVersion entries name version entry
+    × ((es : List Entry)
+    → ReadsAreShown es (child_reads (child_try entries nodes name child version entry root slot))
+    → IsPlanned es (heads_in entries) (Branch name child) mini Made)
 
 -- what it compares, then what it writes, over so many nodes
 abbrev pub snapshot_items : ℕ → ChildTry → Mini

@@ -21,6 +21,7 @@ use Rattle.mn_txn.specs.declared.image.Image.{Image}
 use Rattle.mn_txn.specs.State.{State, image, ImagesAreApart}
 use Rattle.mn_txn.specs.Order.{in_item_order}
 use Rattle.mn_txn.specs.Plan.{plan_of}
+use Rattle.mn_txn.specs.Laws.{ReadsAreShown}
 use Rattle.mn_txn.specs.Attempt.{page_image, count_image}
 
 -- the names of the version and of its child; the version with its entry and its root page as they
@@ -103,7 +104,8 @@ SnapshotIsPlanned =
     → refusal kept (Snapshot c.name c.child) ≡ None → c.entry.seq + 1 < 2 ^ 64
     → ImagesAreApart t.reads → ImagesAreApart t.writes
     → in_item_order t.reads ≡ child_reads c → in_item_order t.writes ≡ snapshot_writes c
-    → (es : List Entry) → IsPlanned es kept (Snapshot c.name c.child) (plan_of t) Made
+    → (es : List Entry) → ReadsAreShown es t.reads
+    → IsPlanned es kept (Snapshot c.name c.child) (plan_of t) Made
 
 -- and so is a Branch
 abbrev pub BranchIsPlanned : Type 0
@@ -112,7 +114,8 @@ BranchIsPlanned =
     → refusal kept (Branch c.name c.child) ≡ None
     → ImagesAreApart t.reads → ImagesAreApart t.writes
     → in_item_order t.reads ≡ child_reads c → in_item_order t.writes ≡ branch_writes c
-    → (es : List Entry) → IsPlanned es kept (Branch c.name c.child) (plan_of t) Made
+    → (es : List Entry) → ReadsAreShown es t.reads
+    → IsPlanned es kept (Branch c.name c.child) (plan_of t) Made
 
 -- Order
 

@@ -1,13 +1,15 @@
 -- The laws of plans that follow from what a plan is. Each public law function has one of these as
 -- its contract.
 use Rattle.std.specs.Prelude.{Bool, nat_eq, filter, ℕ, ◌≡◌, ◌↔◌, IsTrue, List, length, map}
-use Rattle.std.specs.Prelude.{Contains}
+use Rattle.std.specs.Prelude.{Contains, take}
 use Rattle.std.specs.List.{AllByRecursion}
 use Rattle.mn_base.specs.declared.ids.NodeNo.{NodeNo}
 use Rattle.mn_mini.specs.declared.item.Item.{Item}
 use Rattle.mn_mini.specs.declared.item.Item.TheVariants.{Compare, Read, Write}
 use Rattle.mn_page.specs.Space.{count_start}
-use Rattle.mn_world.specs.Places.{Place}
+use Rattle.mn_world.specs.declared.entry.Entry.{Entry}
+use Rattle.mn_world.specs.Places.{Place, IsNumbered, number_size}
+use Rattle.mn_world.specs.Shown.{ShowsLast}
 use Rattle.mn_world.specs.Planned.{place_rank, compare_places, write_places, are_in_order}
 use Rattle.mn_world.specs.Planned.{IsNextNumber}
 use Rattle.mn_txn.specs.declared.image.Image.{Image}
@@ -18,6 +20,18 @@ use Rattle.mn_txn.specs.Plan.{plan_of}
 -- the place of an image, with its length
 abbrev pub image_place : Image → Place
 image_place i = record { node = i.node; start = i.start; length = length i.bytes }
+
+-- the range of its first 8 bytes
+abbrev pub image_front : Image → Place
+image_front i =
+    record { node = i.node; start = i.start; length = length (take number_size i.bytes) }
+
+-- Each image but that of a count is of the place of a page or an entry, and the list has shown its
+-- bytes last, of those with its number
+abbrev pub ReadsAreShown : List Entry → List Image → Type 0
+ReadsAreShown es images =
+    AllByRecursion (λ i. (i.start ≡ count_start → ⊥) → IsNumbered (image_place i)
+    × ShowsLast es (image_place i) (take number_size i.bytes) i.bytes) images
 
 -- Order
 
@@ -39,20 +53,21 @@ PagesStay = (images : List Image) → filter is_page (in_item_order images) ≡ 
 -- what is compared is what was read, and what is written is what is to be written
 abbrev pub PlansNameTheirPlaces : Type 0
 PlansNameTheirPlaces =
-    (t : State) → (compare_places (plan_of t) ≡ map image_place (in_item_order t.reads))
+    (t : State) → (compare_places (plan_of t) ≡ map image_front (in_item_order t.reads))
     × (write_places (plan_of t) ≡ map image_place (in_item_order t.writes))
 
 abbrev pub PlansNameNoOther : Type 0
 PlansNameNoOther =
     (t : State) (place : Place)
-    → (Contains (compare_places (plan_of t)) place ↔ Contains (map image_place t.reads) place)
+    → (Contains (compare_places (plan_of t)) place ↔ Contains (map image_front t.reads) place)
     × (Contains (write_places (plan_of t)) place ↔ Contains (map image_place t.writes) place)
 
 -- Items
 
--- a compare of bytes that were read, or a write of bytes that are to be written
+-- a compare of the first 8 of bytes that were read, or a write of bytes that are to be written
 abbrev pub IsItemOf : State → Item → Type 0
-IsItemOf t (Compare node start bytes) = Contains t.reads (image node start bytes)
+IsItemOf t (Compare node start bytes) =
+    (whole : List ℕ) × Contains t.reads (image node start whole) × (bytes ≡ take number_size whole)
 IsItemOf t (Read node start length) = ⊥
 IsItemOf t (Write node start bytes) = Contains t.writes (image node start bytes)
 

@@ -1,6 +1,6 @@
 -- The plan of a transaction, and when there is none.
 use Rattle.std.specs.Prelude.{◌≡◌, ℕ, ◌+◌, ◌-◌, ◌^◌, Bool, true, false, ◌&&◌, not, nat_eq, nat_le}
-use Rattle.std.specs.Prelude.{nat_lt, List, [], ◌∷◌, ◌++◌, length, map, Option, Some, None}
+use Rattle.std.specs.Prelude.{nat_lt, List, [], ◌∷◌, ◌++◌, length, take, map, Option, Some, None}
 use Rattle.std.specs.Prelude.{if◌then◌else◌}
 use Rattle.byteorder.specs.Endian.{big_number}
 use Rattle.mn_base.specs.declared.ids.NodeNo.{NodeNo}
@@ -8,15 +8,17 @@ use Rattle.mn_mini.specs.declared.item.Item.{Item}
 use Rattle.mn_mini.specs.declared.item.Item.TheVariants.{Compare, Write}
 use Rattle.mn_mini.specs.Mini.{Mini, space_size}
 use Rattle.mn_page.specs.Space.{count_start}
+use Rattle.mn_world.specs.Places.{number_size}
 use Rattle.mn_txn.specs.declared.error.PlanError.{PlanError}
 use Rattle.mn_txn.specs.declared.error.PlanError.TheVariants.{Worn, NoMemory}
 use Rattle.mn_txn.specs.declared.image.Image.{Image}
 use Rattle.mn_txn.specs.State.{State, bytes_at}
 use Rattle.mn_txn.specs.Order.{in_item_order}
 
--- the items of an image
+-- the items of an image: its first 8 bytes are compared, which are the number of a page or an
+-- entry, and the whole of a count
 abbrev pub compare_of : Image → Item
-compare_of i = Compare i.node i.start i.bytes
+compare_of i = Compare i.node i.start (take number_size i.bytes)
 
 abbrev pub write_of : Image → Item
 write_of i = Write i.node i.start i.bytes

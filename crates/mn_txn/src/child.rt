@@ -167,7 +167,8 @@ pub fn snapshot_plan(
 ) -> Result<Minitransaction, PlanError>
     requires may { MayHaveChild catalog.now nodes name.now root.now slot }
     requires admitted { refusal (heads_in catalog.now) (Does.Snapshot name.now child.now) ≡ None }
-    ensures planned { IfOk result (SnapshotPlanned catalog.now name.now child.now) }
+    ensures planned { IfOk result
+        (SnapshotPlanned catalog.now nodes name.now child.now root.now slot) }
     ensures made { IfOk result (IsSnapshotPlan catalog.now nodes name.now child.now root.now slot) }
     ensures refused { IfErr result (RefusesSnapshot catalog.now name.now root.now) }
 {
@@ -201,7 +202,8 @@ pub fn branch_plan(
 ) -> Result<Minitransaction, PlanError>
     requires may { MayHaveChild catalog.now nodes name.now root.now slot }
     requires admitted { refusal (heads_in catalog.now) (Does.Branch name.now child.now) ≡ None }
-    ensures planned { IfOk result (BranchPlanned catalog.now name.now child.now) }
+    ensures planned { IfOk result
+        (BranchPlanned catalog.now nodes name.now child.now root.now slot) }
     ensures made { IfOk result (IsBranchPlan catalog.now nodes name.now child.now root.now slot) }
     ensures refused { IfErr result (RefusesBranch catalog.now name.now root.now) }
 {

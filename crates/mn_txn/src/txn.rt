@@ -1,5 +1,6 @@
 ghost use Rattle.std.specs.Prelude.{◌≡◌, ◌++◌, [], length, map, None, IfOk, IfErr, OnOk, OnErr};
-ghost use Rattle.std.specs.Prelude.{IsTrue};
+ghost use Rattle.std.specs.Prelude.{IsTrue, take};
+ghost use Rattle.mn_world.specs.Places.{number_size};
 ghost use Rattle.std.specs.List.{position_or_len};
 ghost use Rattle.smallvec.specs.SmallVec.{HasRoomFor};
 ghost use Rattle.mn_mini.specs.declared.error.MiniError.TheVariants as mini;
@@ -176,16 +177,34 @@ fn first_worn(dirty: &[Image], reads: &[Image], images: &[Image]) -> Option<(Nod
     None
 }
 
-/// Adds the compare of each image, where there is room for them.
-fn push_compares(items: &mut SmallVec<Item, ITEMS_IN_PLACE>, images: Vec<Image>)
+/// The first 8 of these bytes, or all of them where there are fewer.
+fn front_of(bytes: &[u8]) -> &[u8]
+    ensures { result.now ≡ take number_size bytes.now }
+{
+    if bytes.len() < NUMBER_SIZE {
+        bytes
+    } else {
+        &bytes[..NUMBER_SIZE]
+    }
+}
+
+/// Adds the compare of each image, where there is room for them: of the number of a page or an
+/// entry, and of a whole count.
+fn push_compares(
+    alloc: Global,
+    items: &mut SmallVec<Item, ITEMS_IN_PLACE>,
+    images: Vec<Image>,
+) -> Result<(), NoMemory>
     requires { HasRoomFor items.old (length images.items) }
-    ensures items { items.new.items ≡ items.old.items ++ map compare_of images.items }
+    ensures items { OnOk result (items.new.items ≡ items.old.items ++ map compare_of images.items) }
     ensures room { items.new.capacity ≡ items.old.capacity }
 {
     for image in images {
         let Image { node, start, bytes } = image;
+        let bytes = SharedBytes::copy_of(alloc, front_of(bytes.as_slice()))?;
         items.push_reserved(Item::Compare { node, start, bytes });
     }
+    Ok(())
 }
 
 /// Adds the write of each image, where there is room for them.
@@ -206,7 +225,7 @@ fn items_of(alloc: Global, reads: Vec<Image>, writes: Vec<Image>) -> Result<Item
         ≡ map compare_of reads.items ++ map write_of writes.items) }
 {
     let mut items = SmallVec::with_capacity(alloc, reads.len() + writes.len())?;
-    push_compares(&mut items, reads);
+    push_compares(alloc, &mut items, reads)?;
     push_writes(&mut items, writes);
     Items::new(alloc, items)
 }

@@ -1,8 +1,8 @@
 -- How a transaction of several steps goes on.
 use Rattle.std.proofs.Common.{◌≡◌, ◌⊎◌, inl, inr, ℕ, zero, suc, ◌+◌, ◌<◌, ◌≤◌, Bool, true, false}
 use Rattle.std.proofs.Common.{◌&&◌, ◌||◌, List, [], ◌∷◌, ◌++◌, map, length, Option, Some, None, refl, subst}
-use Rattle.std.proofs.Common.{sym, ap, ◌∙◌, arith, get_or, slice_get, if◌then◌else◌, Vec, Global, Contains}
-use Rattle.std.specs.Prelude.{MatchOption, drop, nat_eq, take}
+use Rattle.std.proofs.Common.{sym, ap, ◌∙◌, arith, get_or, slice_get, if◌then◌else◌, Vec, Global, Contains, Result}
+use Rattle.std.specs.Prelude.{MatchOption, OnOk, drop, nat_eq, take}
 use Rattle.std.specs.List.{AllByRecursion, list_any}
 use Rattle.std.specs.Option.{is_some, option_map}
 use Rattle.std.specs.Prelude.{bytes_eq}
@@ -12,6 +12,7 @@ use Rattle.mn_alloc.specs.Plan.{free_slots, new_slots, one_given}
 use Rattle.mn_base.specs.Store.{Head, head_named, is_change, max_versions, number_named, op_version}
 use Rattle.mn_base.specs.Store.{is_unmet, refusal, refusal_at, step_key, value_at}
 use Rattle.mn_base.specs.Tree.{parents_of}
+use Rattle.mn_base.specs.declared.error.NoMemory.{NoMemory}
 use Rattle.mn_base.specs.declared.ids.Addr.{Addr}
 use Rattle.mn_base.specs.declared.ids.VersionNo.{VersionNo}
 use Rattle.mn_base.specs.declared.op.Op.{Op}
@@ -59,15 +60,26 @@ use Rattle.mn_work.specs.declared.attempt.Attempt.{Attempt}
 use Rattle.mn_work.specs.declared.known.Known.{Known}
 use Rattle.mn_work.specs.Attempts.{Asks, ComesIn, DoesSteps, HasCounts, HasUnmet, IsNextStep, IsOnItsWay, IsTold, IsUnderWay, IsUnmet}
 use Rattle.mn_work.specs.Attempts.{IsPlanWanted, IsReadAt, KeepsSteps, KeepsVersion, SameButFound, was_read}
-use Rattle.mn_work.proofs.Compares.{HasRead, done_read, items_plan, of_items, of_reads, reads_plan, unmet_read}
+use Rattle.mn_work.proofs.Compares.{done_read, items_plan, of_items, of_reads, reads_plan, unmet_read}
 use Rattle.mn_base.specs.declared.answer.Busy.{Busy}
 use Rattle.mn_work.specs.declared.next.Next.{Next}
 use Rattle.mn_work.specs.declared.next.Taken.{Taken}
 use Rattle.mn_work.specs.Among.{FaultIsMet}
 use Rattle.mn_work.specs.Attempts.{HasCome, IsCause, IsFault, IsStuck, TakesBytes, TakesNone, TakesPage}
-use Rattle.mn_work.specs.Attempts.{MayFail, TakesRead, WantsBy, with_overlay}
+use Rattle.mn_work.specs.Attempts.{MayFail, TakesRead, WantsBy}
 use Rattle.mn_work.specs.Seen.{SpellsNone}
 use Rattle.mn_work.specs.Knows.{KeepsKnown}
+use Rattle.mn_work.specs.Last.{AreReadAs, IsLast, PagesAreLast}
+use Rattle.mn_work.specs.Attempts.{StaysLast}
+use Rattle.mn_work.proofs.Last.{done_last, found_last, on_any, unmet_last, used_last}
+use Rattle.mn_work.proofs.Compares.{mapped_back}
+use Rattle.mn_work.specs.Cached.{AreUsed}
+use Rattle.mn_cache.specs.Pages.{page_at}
+use Rattle.mn_page.specs.Grammar.{page_bytes}
+use Rattle.mn_page.specs.Overlay.{held_at}
+use Rattle.mn_tree.specs.MoveLaws.{MovesComeOnce}
+use Rattle.mn_world.specs.Places.{page_place}
+use Rattle.mn_world.proofs.Plans.Told.{all_there}
 use Rattle.mn_work.specs.Walks.{Admits}
 
 -- Lists
@@ -630,9 +642,21 @@ module _ (known : Known) (all : List Step) (a : Attempt) (entry : CatEntry) (r :
 
     does_steps : (mini : Mini) → DonePlanned r p mini
         → DoesSteps entries all a (Values a.found.items) mini
-    does_steps mini planned name es admits =
+    does_steps mini planned name es admits catalog last =
         let m = by_counts name admits counts in
-        planned (heads_in entries) _ m.2 es
+        let t : Tried = record {
+          name = name;
+          version = a.version;
+          entry = entry;
+          steps = all;
+          moves = way.moves;
+          draft = a.overlay.draft;
+          reply = Values a.found.items;
+          counts = m.0;
+          slots = m.1;
+        } in
+        planned (heads_in entries) t m.2 es
+        (done_last es entries t a.pages.items way.came no_pages a.overlay.draft tree_of a.root way.pages way.come.pages way.come.leads way.early there (subst IsEntry same way.entry) catalog last)
 
     -- its counts are those that were read, or it takes no slots
     its_counts : (kept : List Head) (t : Tried) → MayBeDone kept r p t
@@ -670,7 +694,7 @@ module _ (known : Known) (all : List Step) (a : Attempt) (entry : CatEntry) (r :
         record {
           does = does_steps mini planned;
           compares = λ n start bytes has.
-              of_items (HasRead entries a) (done_reads t) (done_writes t) read n start bytes (subst (λ (x : Mini). Contains x.items (Compare n start bytes)) items has);
+              of_items (IsReadAt entries a) (done_reads t) (done_writes t) read n start bytes (subst (λ (x : Mini). Contains x.items (Compare n start bytes)) items has);
           nodes_are = ap (λ (x : Mini). x.nodes) items ∙ told.0;
           plan = ap (λ (x : Mini). is_plan x.items) items ∙ items_plan (done_reads t) (done_writes t);
         }
@@ -723,9 +747,11 @@ module _ (nodes : ℕ) (entries : List CatEntry) (all : List Step) (a : Attempt)
       let items = made (heads_in entries) t (its_unmet unmet.name unmet.admits) in
       let read = unmet_read entries a t unmet.came unmet.pages unmet.ends.pages refl there in
       record {
-        does = λ name es admits. planned (heads_in entries) (its_try name) (its_unmet name admits) es;
+        does = λ name es admits catalog last.
+            planned (heads_in entries) (its_try name) (its_unmet name admits) es
+            (unmet_last es entries (its_try name) a.pages.items unmet.came no_pages a.overlay.draft tree_is a.root unmet.pages unmet.ends.pages unmet.ends.leads unmet.early there (subst IsEntry entry_is unmet.entry) catalog last);
         compares = λ n start bytes has.
-            of_reads (HasRead entries a) (unmet_reads t) read n start bytes (subst (λ (x : Mini). Contains x.items (Compare n start bytes)) items has);
+            of_reads (IsReadAt entries a) (unmet_reads t) read n start bytes (subst (λ (x : Mini). Contains x.items (Compare n start bytes)) items has);
         nodes_are = ap (λ (x : Mini). x.nodes) items ∙ told.0;
         plan = ap (λ (x : Mini). is_plan x.items) items ∙ reads_plan (unmet_reads t);
       }
@@ -927,7 +953,9 @@ pub wanted_kept : (nodes : ℕ) (entries : List CatEntry) (all : List Step) (a b
     (mini : Mini) → SameButFound a b → IsPlanWanted nodes entries all a reply mini
     → IsPlanWanted nodes entries all b reply mini
 wanted_kept nodes entries all a b reply mini same wanted = record {
-  does = λ name es admits. wanted.does name es (admits_after entries (Tx name all) b a (sym same.0.0, sym same.0.1) admits);
+  does = λ name es admits catalog last.
+      wanted.does name es (admits_after entries (Tx name all) b a (sym same.0.0, sym same.0.1) admits) catalog
+      (subst (λ (v : Vec SeenPage Global). PagesAreLast es v.items) same.2 last);
   compares = λ n start bytes has. on n start bytes (wanted.compares n start bytes has);
   nodes_are = wanted.nodes_are;
   plan = wanted.plan;
@@ -1011,3 +1039,72 @@ runs_on k1 k2 k3 later all a b c so kept stays counts same way = record {
   same = λ l. same l ∙ so.same l;
   way = way;
 }
+
+-- What was shown last
+
+-- where no page came in
+pub same_last : (pages : List (Addr × Page)) (a b : Attempt) → b.pages ≡ a.pages → StaysLast pages a b
+same_last pages a b same es cached last = subst (λ (v : Vec SeenPage Global). PagesAreLast es v.items) (sym same) last
+
+-- where one did that is cached
+pub comes_last : (pages : List (Addr × Page)) (a b : Attempt) (addr : Addr) (page : Page) (goes : Bool)
+    → page_at addr pages ≡ Some page → ComesIn a addr page b goes → StaysLast pages a b
+comes_last pages a b addr page goes at comes es cached last =
+    subst (PagesAreLast es) (sym comes.0)
+    (all_append (λ p. IsLast es (page_place p.addr) p.bytes) a.pages.items _ last (found_last es addr pages page cached at, tt))
+
+-- where the rest of a call brought none
+pub ends_last : {T : Type 0} (result : Result T NoMemory) (pages : List (Addr × Page)) (a b c : Attempt)
+    → StaysLast pages a b → c.pages ≡ b.pages → OnOk result (StaysLast pages a c)
+ends_last result pages a b c stays same =
+    on_any result (StaysLast pages a c) (λ es cached last. same_last pages b c same es cached (stays es cached last))
+
+-- one after another
+pub then_last : (before middle : List (Addr × Page)) (a b c : Attempt) → AreUsed before middle
+    → StaysLast before a b → StaysLast middle b c → StaysLast before a c
+then_last before middle a b c used first second es cached last =
+    second es (used_last es before middle used cached) (first es cached last)
+
+-- no page comes in with other bytes
+read_so : (came : List Held) (x : Addr) (q : Page) → held_at came x ≡ Some q → (hs : List Held)
+    → AllByRecursion (λ h. held_at came h.addr ≡ Some h.page) hs
+    → AreReadAs x (page_bytes q) (map seen_as hs)
+read_so came x q at [] all = tt
+read_so came x q at (h ∷ hs) all = (
+  λ same.
+      let there : Some h.page ≡ Some q = sym all.0 ∙ (ap (λ (y : Addr). held_at came y) same ∙ at) in
+      let is : h.page ≡ q = cc in
+      ap page_bytes is,
+  read_so came x q at hs all.1,
+)
+
+some_way : (o : Option (List CatEntry)) (P : List CatEntry → Type 0) (Q : Type 0)
+    → MatchOption o ⊥ P → ((entries : List CatEntry) → P entries → Q) → Q
+some_way None P Q told on = absurd told
+some_way (Some entries) P Q told on = on entries told
+
+last_in : {X : Type 0} (xs : List X) (x : X) → Contains (xs ++ x ∷ []) x
+last_in [] x = (0, omega arith, refl)
+last_in (y ∷ xs) x = let rest = last_in xs x in (suc rest.0, (let l = rest.1 in omega arith), rest.2)
+
+pub read_as : (known : Known) (all : List Step) (before after : Attempt) (addr : Addr) (page : Page)
+    (leaf : Bool) → MovesComeOnce → HasCome before addr (page_bytes page) leaf after
+    → IsOnItsWay known all after → AreReadAs addr (page_bytes page) after.pages.items
+read_as known all before after addr page leaf once come way =
+    some_way known.catalog (λ entries. IsUnderWay known.nodes entries all after) _ way by
+  where
+    by : (entries : List CatEntry) → IsUnderWay known.nodes entries all after
+        → AreReadAs addr (page_bytes page) after.pages.items
+    by entries w =
+        let one = once (parents_of (heads_in entries)) after.version after.root w.moves after.overlay.draft w.come.leads in
+        let all_are : AllByRecursion (λ h. held_at w.came h.addr ≡ Some h.page) w.came =
+        subst (λ (l : List Held). AllByRecursion (λ h. held_at l h.addr ≡ Some h.page) l) w.come.pages one in
+        let new : SeenPage = record { addr = addr; bytes = page_bytes page; leaf = leaf } in
+        let among : Contains (map seen_as w.came) new = subst (λ (l : List SeenPage). Contains l new) (sym come ∙ w.pages) (last_in before.pages.items new) in
+        let from = mapped_back seen_as w.came new among in
+        let there : held_at w.came from.0.addr ≡ Some from.0.page = all_there (λ h. held_at w.came h.addr ≡ Some h.page) w.came from.0 all_are from.1 in
+        let addrs : from.0.addr ≡ addr = ap (λ (p : SeenPage). p.addr) from.2 in
+        let bytes : page_bytes from.0.page ≡ page_bytes page = ap (λ (p : SeenPage). p.bytes) from.2 in
+        subst (AreReadAs addr (page_bytes page)) (sym w.pages)
+        (subst (λ (b : List ℕ). AreReadAs addr b (map seen_as w.came)) bytes
+        (read_so w.came addr from.0.page (ap (λ (y : Addr). held_at w.came y) (sym addrs) ∙ there) w.came all_are))

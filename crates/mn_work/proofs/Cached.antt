@@ -1,18 +1,20 @@
 -- What is cached are inner pages, whichever is used, put in or dropped; and on the way of a try each
 -- page that was there stays, whichever are used.
 use Rattle.std.proofs.Common.{◌≡◌, ◌≤◌, ◌⊎◌, ◌∙◌, ℕ, zero, suc, Bool, true, false, List, [], ◌∷◌, ◌++◌, take, Option, Some, None, ap, arith, inl, inr, refl, subst, sym}
-use Rattle.std.specs.Prelude.{if◌then◌else◌, nat_eq}
+use Rattle.std.specs.Prelude.{if◌then◌else◌, nat_eq, Result}
 use Rattle.std.specs.Option.{option_map_or}
 use Rattle.std.specs.Map.{lookup, remove_entry}
 use Rattle.mn_base.specs.Ids.{addr_same}
 use Rattle.mn_base.specs.declared.ids.Addr.{Addr}
+use Rattle.mn_base.specs.declared.error.NoMemory.{NoMemory}
 use Rattle.mn_page.specs.declared.page.Page.{Page}
 use Rattle.mn_page.specs.Grammar.{IsPage, SpellsPage, height_of}
 use Rattle.mn_cache.specs.Pages.{page_at, pages_put, pages_used, pages_without}
 use Rattle.mn_cache.specs.declared.cache.TheConstants.{CAPACITY}
 use Rattle.mn_work.specs.declared.next.Next.{Next}
-use Rattle.mn_work.specs.Cached.{ArePut, AreUsed, Walks, used_all, without_next}
-use Rattle.mn_work.specs.Knows.{ArePages}
+use Rattle.mn_work.specs.Cached.{ArePut, AreUsed, Puts, Replaces, Walks, used_all, without_next}
+use Rattle.mn_work.specs.declared.known.Known.{Known}
+use Rattle.mn_work.specs.Knows.{ArePages, KeepsKnown}
 
 found_by : (test : Addr → Bool) (pages : List (Addr × Page)) (page : Page) → ArePages pages
     → lookup test pages ≡ Some page → IsPage page × (1 ≤ height_of page.body)
@@ -119,3 +121,22 @@ leaf_put addr bytes page pages spells low = inr (page, spells, sym (at (height_o
     at : (n : ℕ) → n ≤ 0 → (if nat_eq n 0 then pages else pages_put addr page pages) ≡ pages
     at zero low = refl
     at (suc n) low = absurd (omega arith)
+
+-- A page that was read leaves first
+
+pub replaces : {T : Type 0} (addr : Addr) (bytes : List ℕ) (before middle after : List (Addr × Page)) (result : Result T NoMemory)
+    → middle ≡ pages_without addr before → page_at addr middle ≡ None → Puts addr bytes middle after result
+    → Replaces addr bytes before after result
+replaces addr bytes before middle after result is gone puts = record {
+  gone = subst (λ (l : List (Addr × Page)). page_at addr l ≡ None) is gone;
+  puts = subst (λ (l : List (Addr × Page)). Puts addr bytes l after result) is puts;
+}
+
+-- what is kept beside stays
+pub kept_without : (known new : Known) (addr : Addr) (middle : List (Addr × Page)) → middle ≡ pages_without addr known.cache
+    → KeepsKnown (record known { cache = middle }) new → KeepsKnown known new
+kept_without known new addr middle is kept = (
+  kept.0,
+  kept.1,
+  λ are. kept.2 (subst ArePages (sym is) (without addr known.cache are)),
+)

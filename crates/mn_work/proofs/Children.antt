@@ -27,7 +27,11 @@ use Rattle.mn_work.specs.declared.next.Next.TheVariants.{Answers, Catalog, Count
 use Rattle.mn_work.specs.declared.next.Taken.{Taken}
 use Rattle.mn_work.specs.declared.next.Taken.TheVariants.{GoesOn, Leaf, Replies, Fails}
 use Rattle.mn_work.specs.Children.{IsOnItsWay, IsUnderWay, KeepsTry, MayPlan, TakesRoot, UnlessFails, WantsPage, WantsRoot, failing, may_copy, may_copy_by}
+use Rattle.mn_cache.specs.Pages.{page_at}
+use Rattle.mn_work.specs.Children.{StaysLast}
+use Rattle.mn_work.specs.Last.{RootIsLast}
 use Rattle.mn_work.specs.Walks.{Admits}
+use Rattle.mn_work.proofs.Last.{found_last}
 
 -- a kept root page is taken, or makes the try fail
 pub takes_kept : (known : Known) (before after : Child) (page : Page) (taken : Taken) → IsPage page
@@ -190,3 +194,23 @@ pub are_apart : (a b : Addr) (same : Bool) → same ≡ (nat_eq a.node.0 b.node.
 are_apart a b same is off e =
     let on : same ≡ true = is ∙ sym (ap (λ (x : Addr). nat_eq a.node.0 x.node.0 && nat_eq a.slot x.slot) e) ∙ same_itself a in
     cc
+
+-- What was shown last
+
+-- the root page came in from the cache, or none did
+pub root_last : (pages : List (Addr × Page)) (catalog : Option (List CatEntry)) (before after : Child) (page : Page)
+    (taken : Taken) → page_at before.root pages ≡ Some page → KeepsTry before after
+    → TakesRoot catalog before page after taken → StaysLast pages before after
+root_last pages catalog before after page taken at keeps takes es cached last = by taken takes
+  where
+    moved : (o : Option Page) → after.page ≡ o → RootIsLast es before.root o → RootIsLast es after.root after.page
+    moved o is old =
+        subst (λ (a : Addr). RootIsLast es a after.page) (sym keeps.1)
+        (subst (RootIsLast es before.root) (sym is) old)
+
+    by : (t : Taken) → TakesRoot catalog before page after t → RootIsLast es after.root after.page
+    by GoesOn (may, there) = moved (Some page) there (found_last es before.root pages page cached at)
+    by Leaf root = absurd root
+    by (Replies reply) root = absurd root
+    by (Fails None) root = absurd root
+    by (Fails (Some cause)) root = moved before.page root.2 last

@@ -1,6 +1,6 @@
 -- What the plan of a transaction compares, its try has read.
 use Rattle.std.proofs.Common.{◌≡◌, ◌⊎◌, inl, inr, ℕ, zero, suc, ◌+◌, ◌<◌, Bool, true, false, not, List, [], ◌∷◌, ◌++◌, map, length, Contains, Option, Some, None, refl, subst, sym, ap, ◌∙◌, arith, slice_get, slice_index_or, if◌then◌else◌}
-use Rattle.std.specs.Prelude.{filter, nat_eq}
+use Rattle.std.specs.Prelude.{filter, nat_eq, take}
 use Rattle.std.specs.List.{AllByRecursion, list_any, range_with_len}
 use Rattle.std.specs.Option.{option_map, option_to_list}
 use Rattle.std.proofs.lemmas.List.Elements.{Contains-append_cases}
@@ -18,6 +18,7 @@ use Rattle.mn_page.specs.Space.{entry_start}
 use Rattle.mn_tree.specs.Moves.{Move, came_at, comes_in}
 use Rattle.mn_world.specs.Clients.{is_plan}
 use Rattle.mn_world.specs.Growth.{giving_nodes, node_no, taken_on}
+use Rattle.mn_world.specs.Places.{number_size}
 use Rattle.mn_world.proofs.Plans.Grown.{addr_is}
 use Rattle.mn_world.proofs.Plans.Told.{all_there}
 use Rattle.mn_txn.specs.declared.image.Image.{Image}
@@ -41,7 +42,7 @@ contains_map f (y ∷ ys) x (suc k, low, is) =
     (suc rest.0, (let l = rest.1 in omega arith), rest.2)
 
 -- where an element of a mapped list comes from
-mapped_back : {X Y : Type 0} (f : X → Y) (xs : List X) (y : Y) → Contains (map f xs) y
+pub mapped_back : {X Y : Type 0} (f : X → Y) (xs : List X) (y : Y) → Contains (map f xs) y
     → (x : X) × Contains xs x × (f x ≡ y)
 mapped_back f [] y (k, low, is) = absurd (omega arith)
 mapped_back f (x ∷ xs) y (zero, low, is) = (x, (0, omega arith, refl), is)
@@ -52,29 +53,31 @@ mapped_back f (x ∷ xs) y (suc k, low, is) =
 
 -- Items of images
 
--- only such an image is compared so
-compared_is : (i : Image) (n : NodeNo) (start : ℕ) (bytes : List ℕ)
-    → compare_of i ≡ Compare n start bytes → i ≡ image n start bytes
-compared_is i n start bytes e =
+-- only an image that begins so is compared so
+compared_is : (P : NodeNo → ℕ → List ℕ → Type 0) (i : Image) (n : NodeNo) (start : ℕ) (bytes : List ℕ)
+    → compare_of i ≡ Compare n start bytes → P i.node i.start (take number_size i.bytes) → P n start bytes
+compared_is P i n start bytes e is =
     let node : i.node ≡ n = cc in
     let begins : i.start ≡ start = cc in
-    let are : i.bytes ≡ bytes = cc in
-    ap (λ (m : NodeNo). image m i.start i.bytes) node
-    ∙ (ap (λ (k : ℕ). image n k i.bytes) begins ∙ ap (λ (b : List ℕ). image n start b) are)
+    let are : take number_size i.bytes ≡ bytes = cc in
+    subst (λ (m : NodeNo). P m start bytes) node
+    (subst (λ (k : ℕ). P i.node k bytes) begins (subst (λ (b : List ℕ). P i.node i.start b) are is))
 
--- a compare is that of an image that was read
-pub of_reads : (P : Image → Type 0) (reads : List Image) → AllByRecursion P reads
+-- a compare is that of the front of an image that was read
+pub of_reads : (P : NodeNo → ℕ → List ℕ → Type 0) (reads : List Image)
+    → AllByRecursion (λ i. P i.node i.start (take number_size i.bytes)) reads
     → (n : NodeNo) (start : ℕ) (bytes : List ℕ)
-    → Contains (map compare_of reads) (Compare n start bytes) → P (image n start bytes)
+    → Contains (map compare_of reads) (Compare n start bytes) → P n start bytes
 of_reads P reads all n start bytes has =
     let m = mapped_back compare_of reads (Compare n start bytes) has in
-    subst P (compared_is m.0 n start bytes m.2) (all_there P reads m.0 all m.1)
+    compared_is P m.0 n start bytes m.2 (all_there (λ i. P i.node i.start (take number_size i.bytes)) reads m.0 all m.1)
 
 -- also beside writes
-pub of_items : (P : Image → Type 0) (reads writes : List Image) → AllByRecursion P reads
+pub of_items : (P : NodeNo → ℕ → List ℕ → Type 0) (reads writes : List Image)
+    → AllByRecursion (λ i. P i.node i.start (take number_size i.bytes)) reads
     → (n : NodeNo) (start : ℕ) (bytes : List ℕ)
     → Contains (map compare_of reads ++ map write_of writes) (Compare n start bytes)
-    → P (image n start bytes)
+    → P n start bytes
 of_items P reads writes all n start bytes has =
     by (Contains-append_cases (map compare_of reads) (map write_of writes) (Compare n start bytes) has)
   where
@@ -82,7 +85,7 @@ of_items P reads writes all n start bytes has =
     off i e = cc
 
     by : Contains (map compare_of reads) (Compare n start bytes)
-        ⊎ Contains (map write_of writes) (Compare n start bytes) → P (image n start bytes)
+        ⊎ Contains (map write_of writes) (Compare n start bytes) → P n start bytes
     by (inl c) = of_reads P reads all n start bytes c
     by (inr w) = let m = mapped_back write_of writes (Compare n start bytes) w in absurd (off m.0 m.2)
 
@@ -103,7 +106,7 @@ abbrev held : Addr → Page → Held
 held a q = record { addr = a; page = q }
 
 -- a page that is held at an address is one of them
-held_has : (hs : List Held) (x : Addr) (p : Page) → held_at hs x ≡ Some p
+pub held_has : (hs : List Held) (x : Addr) (p : Page) → held_at hs x ≡ Some p
     → Contains hs (record { addr = x; page = p })
 held_has [] x p e = absurd cc
 held_has (h ∷ hs) x p e = by (addr_same h.addr x) refl e (held_has hs x p)
@@ -130,9 +133,9 @@ within_is (c ∷ counts) zero low = refl
 within_is (c ∷ counts) (suc n) low = within_is counts n (omega arith)
 
 module _ (entries : List CatEntry) (a : Attempt) where
-  -- it has read the image
+  -- it has read the image, of which a plan compares the front
   abbrev pub HasRead : Image → Type 0
-  HasRead i = IsReadAt entries a i.node i.start i.bytes
+  HasRead i = IsReadAt entries a i.node i.start (take number_size i.bytes)
 
   -- its pages
   pub came_read : (came : List Held) (moves : List Move) → a.pages.items ≡ map seen_as came

@@ -6,7 +6,10 @@ pub mod Children
 pub mod Compares
 pub mod Descents
 pub mod Getting
+pub mod Last
+pub mod Lasting
 pub mod Paths
+pub mod Planned
 pub mod Scans
 pub mod Versions
 pub mod Walks

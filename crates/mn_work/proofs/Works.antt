@@ -1,16 +1,18 @@
 -- How an operation goes on, by its job.
-use Rattle.std.proofs.Common.{◌≡◌, ◌⊎◌, inl, inr, ◌≢◌, not, ℕ, suc, ◌<◌, ◌≤◌, Bool, true, false}
+use Rattle.std.proofs.Common.{◌≡◌, ◌⊎◌, inl, inr, ◌≢◌, not, ℕ, suc, ◌+◌, ◌<◌, ◌≤◌, Bool, true, false}
 use Rattle.std.proofs.Common.{List, [], ◌∷◌, ◌++◌, length, Option, Some, None, refl, subst, IsTrue}
 use Rattle.std.proofs.Common.{sym, ap, ◌∙◌, arith, slice_get, slice_index_or, Fits, w8, Vec, Global}
-use Rattle.std.proofs.Common.{length-append}
-use Rattle.std.specs.Prelude.{MatchOption, ⊤, nat_lt, take}
+use Rattle.std.proofs.Common.{length-append, Result, Ok, Err}
+use Rattle.std.specs.Prelude.{IfOk, MatchOption, OnOk, ⊤, bytes_eq, if◌then◌else◌, nat_lt, take}
 use Rattle.std.specs.List.{AllByRecursion, list_all}
 use Rattle.std.specs.Option.{is_some, option_map, option_and_then}
 use Rattle.std.proofs.lemmas.Bool.Decides.{nat_tests}
+use Rattle.std.proofs.lemmas.Result.{on_ok_weaker}
 use Rattle.std.proofs.lemmas.List.Elements.{recursion_from_All}
 use Rattle.std.proofs.lemmas.Option.{slice_get_within}
 use Rattle.mn_base.specs.declared.answer.Busy.{Busy}
-use Rattle.mn_base.specs.Store.{max_versions, number_named, op_version, refusal}
+use Rattle.mn_base.specs.Store.{head_named, max_versions, number_named, op_version, refusal, refusal_at, Head}
+use Rattle.mn_base.specs.declared.reply.Reply.TheVariants.{NoVersion}
 use Rattle.mn_base.specs.Tree.{parents_of}
 use Rattle.mn_base.specs.declared.ids.Addr.{Addr}
 use Rattle.mn_base.specs.declared.ids.NodeNo.{NodeNo}
@@ -24,7 +26,7 @@ use Rattle.mn_catalog.specs.Grammar.{IsCatalog}
 use Rattle.mn_mini.specs.Mini.{Mini}
 use Rattle.mn_page.specs.declared.entry.CatEntry.{CatEntry}
 use Rattle.mn_page.specs.declared.page.Page.{Page}
-use Rattle.mn_page.specs.Forest.{heads_in}
+use Rattle.mn_page.specs.Forest.{entry_head, heads_in}
 use Rattle.mn_page.specs.Grammar.{IsEntry, IsPage}
 use Rattle.mn_page.specs.Space.{max_slots}
 use Rattle.mn_page.proofs.Grid.{all_at_place}
@@ -34,6 +36,7 @@ use Rattle.mn_tree.specs.Tries.{ComeTo}
 use Rattle.mn_txn.specs.declared.seen.SeenPage.{SeenPage}
 use Rattle.mn_work.specs.declared.attempt.Attempt.{Attempt}
 use Rattle.mn_work.specs.declared.child.Child.{Child}
+use Rattle.mn_work.specs.declared.get.Descent.{Descent}
 use Rattle.mn_work.specs.declared.known.Known.{Known}
 use Rattle.mn_work.specs.declared.next.Next.{Next}
 use Rattle.mn_work.specs.declared.next.Taken.{Taken}
@@ -41,7 +44,10 @@ use Rattle.mn_work.specs.declared.work.Job.{Job}
 use Rattle.mn_work.specs.declared.work.Job.TheVariants as at
 use Rattle.mn_work.specs.declared.work.Started.{Started}
 use Rattle.mn_work.specs.declared.work.Work.{Work}
-use Rattle.mn_work.specs.Works.{HasBegun}
+use Rattle.mn_work.specs.Works.{BeginsSteps, HasBegun, IsReadAs, IsReadIfOn, IsScan, JobIsLast, StaysLast}
+use Rattle.mn_work.specs.Last.{PagesAreLast, RootIsLast}
+use Rattle.mn_world.specs.declared.entry.Entry.{Entry}
+use Rattle.mn_base.specs.declared.error.NoMemory.{NoMemory}
 use Rattle.mn_work.specs.Attempts as attempts
 use Rattle.mn_work.specs.Catalogs.{root_named}
 use Rattle.mn_work.specs.Children as children
@@ -114,6 +120,61 @@ admits_by entries op version root admitted is =
         → Admits entries op version root
     by_number None named e = absurd cc
     by_number (Some v) named e = by_entry v (slice_get entries v) named refl e
+
+-- a name without a root is of no version
+root_none : (entries : List CatEntry) (name : List ℕ) → root_named entries name ≡ None
+    → head_named (heads_in entries) name ≡ None
+root_none [] name e = refl
+root_none (x ∷ entries) name e = by (bytes_eq x.name name) e (root_none entries name)
+  where
+    at_next : (k : ℕ) → slice_get (x ∷ entries) (k + 1) ≡ slice_get entries k
+    at_next k = let next : k + 1 ≡ suc k = omega arith in ap (λ (n : ℕ). slice_get (x ∷ entries) n) next
+
+    no_entry : (k n : ℕ) (o : Option CatEntry) → option_map {U = ℕ × Addr} (λ (y : CatEntry). (n, y.root)) o ≡ None
+        → option_map {U = ℕ × Addr} (λ (y : CatEntry). (k, y.root)) o ≡ None
+    no_entry k n None none = refl
+    no_entry k n (Some y) none = absurd cc
+
+    below : (o : Option ℕ)
+        → option_and_then (λ (v : ℕ). option_map {U = ℕ × Addr} (λ (y : CatEntry). (v, y.root)) (slice_get (x ∷ entries) v)) (option_map (λ n. n + 1) o) ≡ None
+        → option_and_then (λ (v : ℕ). option_map {U = ℕ × Addr} (λ (y : CatEntry). (v, y.root)) (slice_get entries v)) o ≡ None
+    below None none = refl
+    below (Some k) none =
+        no_entry k (k + 1) (slice_get entries k)
+        (subst (λ (o : Option CatEntry). option_map {U = ℕ × Addr} (λ (y : CatEntry). (k + 1, y.root)) o ≡ None) (at_next k) none)
+
+    by : (t : Bool)
+        → option_and_then (λ (v : ℕ). option_map {U = ℕ × Addr} (λ (y : CatEntry). (v, y.root)) (slice_get (x ∷ entries) v)) (if t then Some 0 else option_map (λ n. n + 1) (number_named (heads_in entries) name)) ≡ None
+        → (root_named entries name ≡ None → head_named (heads_in entries) name ≡ None)
+        → (if t then Some (entry_head x) else head_named (heads_in entries) name) ≡ None
+    by true none rest = absurd cc
+    by false none rest = rest (below (number_named (heads_in entries) name) none)
+
+-- a catalog that admits an operation has the version that it names
+pub has_root : (entries : List CatEntry) (op : Op) (name : List ℕ) → version_name op ≡ Some name
+    → refusal (heads_in entries) op ≡ None → root_named entries name ≡ None → ⊥
+has_root entries op name named admitted none = by op named admitted
+  where
+    no_head : (v : List ℕ) → Some v ≡ Some name → head_named (heads_in entries) v ≡ None
+    no_head v e = subst (λ (n : List ℕ). head_named (heads_in entries) n ≡ None) (sym (some_same v name e)) (root_none entries name none)
+
+    by : (o : Op) → version_name o ≡ Some name → refusal (heads_in entries) o ≡ None → ⊥
+    by (Tx v steps) e a =
+        let refused : Some NoVersion ≡ None = subst (λ (h : Option Head). refusal_at (heads_in entries) (Tx v steps) h ≡ None) (no_head v e) a in cc
+    by (Snapshot v child) e a =
+        let refused : Some NoVersion ≡ None = subst (λ (h : Option Head). refusal_at (heads_in entries) (Snapshot v child) h ≡ None) (no_head v e) a in cc
+    by (Branch v child) e a =
+        let refused : Some NoVersion ≡ None = subst (λ (h : Option Head). refusal_at (heads_in entries) (Branch v child) h ≡ None) (no_head v e) a in cc
+    by (Scan v low high limit) e a =
+        let refused : Some NoVersion ≡ None = subst (λ (h : Option Head). refusal_at (heads_in entries) (Scan v low high limit) h ≡ None) (no_head v e) a in cc
+    by Versions e a = absurd cc
+
+-- so it is where the kept catalog admits the operation
+pub may_root : (known : Known) (before : Work) (kept : List CatEntry) (name : List ℕ) → MayStart known before
+    → known.catalog ≡ Some kept → version_name before.op ≡ Some name → root_named kept name ≡ None → ⊥
+may_root known before kept name may is named none =
+    has_root kept before.op name named
+    (subst (λ (o : Option (List CatEntry)). MatchOption o ⊥ (λ entries. refusal (heads_in entries) before.op ≡ None)) is may.1) none
 
 -- the same catalog admits the operation
 abbrev pub admits_as : (entries : List CatEntry) (op : Op) (version : VersionNo) (root : Addr)
@@ -871,3 +932,83 @@ module _ (known new : Known) (before after : Work) (next : Next) (keeps : KeepsK
       by (at.Transaction a) begun lacks goes = inr (some lacks, goes)
       by (at.Child c) begun lacks goes = inr (some lacks, goes)
       by (at.Scan s) begun lacks goes = inr (some lacks, goes)
+
+-- What was shown last
+
+-- a job that begins goes by nothing yet
+begins_last : (es : List Entry) (entries : List CatEntry) (op : Op) (spoiled : Bool) (version : VersionNo)
+    (root : Addr) (job : Job) → BeginsOn entries op spoiled version root job → JobIsLast es job
+begins_last es entries (Tx name steps) spoiled version root job begins = by (lone_key steps) begins
+  where
+    by : (o : Option (List ℕ))
+        → MatchOption o (BeginsSteps entries version root job) (λ key. job ≡ at.Get (record { version = version; addr = root; above = None }))
+        → JobIsLast es job
+    by (Some key) is = subst (JobIsLast es) (sym is) tt
+    by None told =
+        subst (JobIsLast es) (sym told.1) (subst (PagesAreLast es) (sym told.2.pages) tt)
+begins_last es entries (Scan name low high limit) spoiled version root job begins =
+    subst (JobIsLast es) (sym begins.1) tt
+begins_last es entries Versions spoiled version root job begins = absurd begins
+begins_last es entries (Snapshot name child) spoiled version root job begins =
+    subst (JobIsLast es) (sym begins.1) (subst (RootIsLast es begins.0.root) (sym begins.2.page) tt)
+begins_last es entries (Branch name child) spoiled version root job begins =
+    subst (JobIsLast es) (sym begins.1) (subst (RootIsLast es begins.0.root) (sym begins.2.page) tt)
+
+pub starts_last : (es : List Entry) (known : Known) (before after : Work) → before.job ≡ at.Start
+    → StartsBy known before after Started.On → JobIsLast es after.job
+starts_last es known before after start starts = by known.catalog starts.1
+  where
+    by : (o : Option (List CatEntry)) → MatchOption o ⊥ (λ entries. StartsOn entries before after Started.On)
+        → JobIsLast es after.job
+    by None told = absurd told
+    by (Some entries) told =
+        let from = subst (λ (j : Job). GoesOnFrom entries before j after.job) start told in
+        begins_last es entries before.op before.spoiled from.0 from.1 after.job from.3
+
+pub steps_last : (pages : List (Addr × Page)) (before : Job) (a b : Attempt) (result : Result Next NoMemory)
+    → before ≡ at.Transaction a → OnOk result (attempts.StaysLast pages a b)
+    → OnOk result (StaysLast pages before (at.Transaction b))
+steps_last pages before a b result from stays =
+    on_ok_weaker {P = attempts.StaysLast pages a b} result
+    (λ on es cached last. on es cached (subst (JobIsLast es) from last)) stays
+
+pub child_last : (pages : List (Addr × Page)) (before : Job) (c d : Child) (result : Result Next NoMemory)
+    → before ≡ at.Child c → OnOk result (children.StaysLast pages c d)
+    → OnOk result (StaysLast pages before (at.Child d))
+child_last pages before c d result from stays =
+    on_ok_weaker {P = children.StaysLast pages c d} result
+    (λ on es cached last. on es cached (subst (JobIsLast es) from last)) stays
+
+-- a job that isn't a transaction goes by no other bytes of the page that was read
+pub read_any : (result : Result Taken NoMemory) (addr : Addr) (bytes : List ℕ) (job : Job) → IsReadAs addr bytes job
+    → IfOk result (IsReadIfOn addr bytes job)
+read_any (Ok taken) addr bytes job read = λ on. read
+read_any (Err none) addr bytes job read = tt
+
+-- A transaction begins
+
+-- where the kept catalog is enough for it, it goes on with its job
+pub starts_on : (known : Known) (before after : Work) (started : Started) → before.job ≡ at.Start
+    → lacks_catalog known.catalog before ≡ false → StartsBy known before after started → started ≡ Started.On
+starts_on known before after started start enough starts =
+    by known.catalog started (subst (λ (j : Job). lacks_for known.catalog before.op j ≡ false) start enough) starts.1
+  where
+    listed : (o : Option (List CatEntry)) → knows.lacks_catalog o before.op ≡ false → before.op ≡ Versions → ⊥
+    listed o e is =
+        let lacks : true ≡ false = subst (λ (x : Op). knows.lacks_catalog o x ≡ false) is e in
+        absurd cc
+
+    by : (o : Option (List CatEntry)) (s : Started) → lacks_for o before.op at.Start ≡ false
+        → MatchOption o ⊥ (λ entries. StartsOn entries before after s) → s ≡ Started.On
+    by None s e told = absurd told
+    by (Some entries) Started.On e told = refl
+    by (Some entries) (Started.Replies reply) e told = absurd (listed (Some entries) e told.0)
+    by (Some entries) Started.Moved e told = absurd (subst IsScan start told.0)
+
+-- The page that a job asks for
+
+pub get_asks : (known : Known) (op : Op) (job : Job) (name : List ℕ) (steps : List Step) (d : Descent) (addr : Addr)
+    → op ≡ Tx name steps → job ≡ at.Get d → AsksPageFor known op job addr → d.addr ≡ addr
+get_asks known op job name steps d addr is from asks =
+    subst (λ (j : Job). AsksPageFor known (Tx name steps) j addr) from
+    (subst (λ (o : Op). AsksPageFor known o job addr) is asks)

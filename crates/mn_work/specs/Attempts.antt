@@ -34,7 +34,7 @@ use Rattle.mn_tree.specs.Tries.{ComeTo, EndsUnmet}
 use Rattle.mn_tree.specs.declared.stepped.Stepped.TheVariants as steps
 use Rattle.mn_world.specs.declared.entry.Entry.{Entry}
 use Rattle.mn_world.specs.Clients.{is_plan}
-use Rattle.mn_world.specs.Places.{catalog_node}
+use Rattle.mn_world.specs.Places.{catalog_node, number_size}
 use Rattle.mn_world.specs.Planned.{IsPlanned}
 use Rattle.mn_txn.specs.Attempt.{Attempt as Tried}
 use Rattle.mn_txn.specs.Tries.{IsWornPage}
@@ -49,6 +49,7 @@ use Rattle.mn_work.specs.declared.next.Next.{Next}
 use Rattle.mn_work.specs.declared.next.Taken.{Taken}
 use Rattle.mn_work.specs.Among.{FaultIsMet}
 use Rattle.mn_work.specs.Counts.{TakesCount}
+use Rattle.mn_work.specs.Last.{CacheIsLast, CatalogIsLast, PagesAreLast}
 use Rattle.mn_work.specs.Seen.{SpellsNone}
 use Rattle.mn_work.specs.Walks.{Admits}
 
@@ -169,31 +170,32 @@ IsReadSlot a =
 abbrev pub FailsUntold : ℕ → List Step → Attempt → Type 0
 FailsUntold nodes all a = IsStuck nodes all a ⊎ (HasAll nodes all a × IsReadSlot a)
 
--- the plan does what the transaction does with this reply, for a client with any list, by whatever
--- name the catalog has its version
+-- the plan does what the transaction does with this reply, by whatever name the catalog has its
+-- version, for a client whose list has shown last the catalog and the pages that came in
 abbrev pub DoesSteps : List CatEntry → List Step → Attempt → Reply → Mini → Type 0
 DoesSteps entries all a reply mini =
     (name : List ℕ) (es : List Entry) → Admits entries (Tx name all) a.version a.root
+    → CatalogIsLast es entries → PagesAreLast es a.pages.items
     → IsPlanned es (heads_in entries) (Tx name all) mini reply
 
--- the try read the page there with these bytes
+-- the try read the page there, with bytes that begin so
 pub record IsPageRead (a : Attempt) (n : NodeNo) (start : ℕ) (bytes : List ℕ) : Type 0 where
   pub page : SeenPage
   pub among : Contains a.pages.items page
   pub node_is : page.addr.node ≡ n
   pub start_is : slot_start page.addr.slot ≡ start
-  pub bytes_are : page.bytes ≡ bytes
+  pub bytes_are : take number_size page.bytes ≡ bytes
 
--- its catalog has the version's entry there
+-- its catalog has the version's entry there, which begins so
 pub record IsEntryRead (entries : List CatEntry) (a : Attempt) (n : NodeNo) (start : ℕ)
     (bytes : List ℕ) : Type 0 where
   pub entry : CatEntry
   pub there : slice_get entries a.version.0 ≡ Some entry
   pub node_is : catalog_node ≡ n
   pub start_is : entry_start a.version.0 ≡ start
-  pub bytes_are : entry_bytes entry ≡ bytes
+  pub bytes_are : take number_size (entry_bytes entry) ≡ bytes
 
--- it read the node's count there
+-- it read the node's count there, which is this one
 pub record IsCountRead (a : Attempt) (n : NodeNo) (start : ℕ) (bytes : List ℕ) : Type 0 where
   pub count : ℕ
   pub there : slice_get a.counts.items n.0 ≡ Some count
@@ -323,6 +325,12 @@ RunsOn known later all a (Some next) =
 abbrev pub RunsFurther : Attempt → Attempt → Option Next → Type 0
 RunsFurther before after None = after.done ≡ before.done + 1
 RunsFurther before after (Some next) = ⊤
+
+-- whichever list has shown last what is cached and the pages that came in, it has so still
+abbrev pub StaysLast : List (Addr × Page) → Attempt → Attempt → Type 0
+StaysLast pages before after =
+    (es : List Entry) → CacheIsLast es pages → PagesAreLast es before.pages.items
+    → PagesAreLast es after.pages.items
 
 -- Inside
 

@@ -1,12 +1,12 @@
 -- What the steps of a proxy make of the pages that it has cached, and of the catalog that it keeps.
--- An inner page that was read is put in, some are used, and in a later try the page that it reads
--- next may leave; all else stays, as far as the cache has room.
+-- The page of an address that was read leaves, and an inner page is put in; some are used, and in a
+-- later try the page that it reads next may leave; all else stays, as far as the cache has room.
 use Rattle.std.specs.Prelude.{ℕ, ◌≡◌, ◌⊎◌, Bool, true, false, nat_eq, List, [], ◌∷◌, Option, Some}
 use Rattle.std.specs.Prelude.{None, not}
 use Rattle.std.specs.Prelude.{if◌then◌else◌, Result, Ok, Err}
 use Rattle.mn_base.specs.declared.ids.Addr.{Addr}
 use Rattle.mn_base.specs.declared.error.NoMemory.{NoMemory}
-use Rattle.mn_cache.specs.Pages.{pages_put, pages_used, pages_without}
+use Rattle.mn_cache.specs.Pages.{page_at, pages_put, pages_used, pages_without}
 use Rattle.mn_page.specs.declared.page.Page.{Page}
 use Rattle.mn_page.specs.Grammar.{SpellsPage, height_of}
 use Rattle.mn_work.specs.declared.attempt.Reached.{Reached}
@@ -44,6 +44,13 @@ abbrev pub Puts : {T : Type 0} → Addr → List ℕ → List (Addr × Page) →
     → Result T NoMemory → Type 0
 Puts addr bytes before after (Ok taken) = ArePut addr bytes before after
 Puts addr bytes before after (Err none) = (after ≡ before) ⊎ ArePut addr bytes before after
+
+-- The one that was kept of its address leaves first, whatever is read, so that no older page stays;
+-- that takes no memory.
+pub record Replaces {T : Type 0} (addr : Addr) (bytes : List ℕ) (before after : List (Addr × Page))
+    (result : Result T NoMemory) : Type 0 where
+  pub gone : page_at addr (pages_without addr before) ≡ None
+  pub puts : Puts addr bytes (pages_without addr before) after result
 
 -- Pages on the way of a try
 

@@ -8,6 +8,7 @@ use Rattle.mn_base.specs.Store.{refusal}
 use Rattle.mn_base.specs.Tree.{has_version, parents_of}
 use Rattle.mn_base.specs.declared.ids.Addr.{Addr}
 use Rattle.mn_base.specs.declared.ids.NodeNo.{NodeNo}
+use Rattle.mn_base.specs.declared.ids.VersionNo.{VersionNo}
 use Rattle.mn_base.specs.declared.op.Op.{Op}
 use Rattle.mn_base.specs.declared.op.Op.TheVariants.{Snapshot, Branch}
 use Rattle.mn_base.specs.declared.answer.Busy.TheVariants.{Path}
@@ -33,6 +34,7 @@ use Rattle.mn_work.specs.declared.next.Next.{Next}
 use Rattle.mn_work.specs.declared.next.Taken.{Taken}
 use Rattle.mn_work.specs.Counts.{TakesCount}
 use Rattle.mn_work.specs.Descents.{IsOffNodes}
+use Rattle.mn_work.specs.Last.{CacheIsLast, CatalogIsLast, PageIsLast, RootIsLast}
 use Rattle.mn_work.specs.Seen.{SpellsNone}
 use Rattle.mn_work.specs.Walks.{Admits}
 
@@ -109,14 +111,23 @@ MayPlan nodes entries (Branch version child) root slot =
     × (refusal (heads_in entries) (Branch version child) ≡ None)
 MayPlan nodes entries op root slot = ⊥
 
--- it does what the operation does, wherever its compares hold, for a client with any list
-pub record DoesChild (entries : List CatEntry) (op : Op) (mini : Mini) : Type 0 where
-  pub planned : (es : List Entry) → IsPlanned es (heads_in entries) op mini Made
+-- it does what the operation does, wherever its compares hold, for a client whose list has shown
+-- last the catalog and the root page, where that stands
+pub record DoesChild (entries : List CatEntry) (op : Op) (root : Page) (mini : Mini) : Type 0 where
+  pub planned : (es : List Entry) (version : VersionNo) (addr : Addr)
+      → Admits entries op version addr → CatalogIsLast es entries → PageIsLast es addr root
+      → IsPlanned es (heads_in entries) op mini Made
 
 -- why it has none
 abbrev pub RefusesChild : List CatEntry → Op → Page → PlanError → Type 0
 RefusesChild entries op root (Worn node start) = IsWornFor entries op root node start
 RefusesChild entries op root NoMemory = ⊤
+
+-- whichever list has shown last what is cached and the root page, it has so still
+abbrev pub StaysLast : List (Addr × Page) → Child → Child → Type 0
+StaysLast pages before after =
+    (es : List Entry) → CacheIsLast es pages → RootIsLast es before.root before.page
+    → RootIsLast es after.root after.page
 
 -- Steps
 
@@ -137,7 +148,7 @@ pub record IsWanted (nodes : ℕ) (entries : List CatEntry) (op : Op) (c : Child
     : Type 0 where
   pub root : Page
   pub page : c.page ≡ Some root
-  pub planned : DoesChild entries op mini
+  pub planned : DoesChild entries op root mini
   pub plan : IsPlanFor nodes entries op root (next_slot c.counts.items) mini
   -- the count of the slot's node is among those that were read
   pub counted : length c.counts.items ≡ nodes

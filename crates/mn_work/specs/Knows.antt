@@ -22,9 +22,10 @@ abbrev pub LearnsFrom : List ℕ → Option (List CatEntry) → Bool → Type 0
 LearnsFrom bytes None learnt = (learnt ≡ false) × SpellsNoVersions bytes
 LearnsFrom bytes (Some entries) learnt = (learnt ≡ true) × SpellsVersions bytes entries
 
--- by these bytes the catalog is now kept, or none is; or the older one stays
-abbrev pub LearnsOrKeeps : List ℕ → Option (List CatEntry) → Option (List CatEntry) → Type 0
-LearnsOrKeeps bytes before after = (after ≡ before) ⊎ TellsVersions bytes after
+-- by these bytes the catalog is now kept, or none is; or there was no memory for it, and none is:
+-- the older one isn't kept beside bytes that were read after it
+abbrev pub LearnsOrForgets : List ℕ → Option (List CatEntry) → Type 0
+LearnsOrForgets bytes after = (after ≡ None) ⊎ TellsVersions bytes after
 
 -- an operation has to read the catalog first: each but a transaction that the kept one admits
 abbrev pub lacks_catalog : Option (List CatEntry) → Op → Bool

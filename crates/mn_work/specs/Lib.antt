@@ -8,6 +8,7 @@ pub mod Children
 pub mod Counts
 pub mod Descents
 pub mod Knows
+pub mod Last
 pub mod Lent
 pub mod Paths
 pub mod Places

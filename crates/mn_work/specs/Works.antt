@@ -16,8 +16,10 @@ use Rattle.mn_base.specs.declared.answer.Busy.TheVariants.{Path}
 use Rattle.mn_base.specs.declared.reply.Reply.TheVariants.{Listing, Pairs}
 use Rattle.mn_page.specs.declared.entry.CatEntry.{CatEntry}
 use Rattle.mn_page.specs.Forest.{heads_in}
+use Rattle.mn_page.specs.declared.page.Page.{Page}
 use Rattle.mn_scan.specs.Scan.{IsNeeded, ScanState, new_scan, restarted}
 use Rattle.mn_tree.specs.MoveLaws.{IsStep}
+use Rattle.mn_world.specs.declared.entry.Entry.{Entry}
 use Rattle.mn_work.specs.declared.attempt.Attempt.{Attempt}
 use Rattle.mn_work.specs.declared.child.Child.{Child}
 use Rattle.mn_work.specs.declared.get.Descent.{Descent}
@@ -33,6 +35,7 @@ use Rattle.mn_work.specs.Catalogs.{SpellsNoVersions, SpellsVersions}
 use Rattle.mn_work.specs.Children as children
 use Rattle.mn_work.specs.Descents as descents
 use Rattle.mn_work.specs.Knows as knows
+use Rattle.mn_work.specs.Last.{AreReadAs, CacheIsLast, PagesAreLast, RootIsLast}
 use Rattle.mn_work.specs.Scans as scans
 use Rattle.mn_work.specs.Walks.{Admits, IsAbove, is_later}
 
@@ -342,6 +345,29 @@ abbrev pub TakesPageBytes : Known → Addr → List ℕ → Work → Work → Ta
 TakesPageBytes known addr bytes before after taken =
     (after.spoiled ≡ before.spoiled)
     × JobTakes known (is_later before.failed) addr bytes before.op before.job after.job taken
+
+-- What was shown last
+
+-- what a job goes by: a plan comes from these alone
+abbrev pub JobIsLast : List Entry → Job → Type 0
+JobIsLast es (at.Transaction a) = PagesAreLast es a.pages.items
+JobIsLast es (at.Child c) = RootIsLast es c.root c.page
+JobIsLast es job = ⊤
+
+-- whichever list has shown last what is cached and what the job goes by, it has so still
+abbrev pub StaysLast : List (Addr × Page) → Job → Job → Type 0
+StaysLast pages before after =
+    (es : List Entry) → CacheIsLast es pages → JobIsLast es before → JobIsLast es after
+
+-- what a transaction goes by from this address are these bytes alone; what a child goes by came
+-- from one address
+abbrev pub IsReadAs : Addr → List ℕ → Job → Type 0
+IsReadAs addr bytes (at.Transaction a) = AreReadAs addr bytes a.pages.items
+IsReadAs addr bytes job = ⊤
+
+-- where the try goes on
+abbrev pub IsReadIfOn : Addr → List ℕ → Job → Taken → Type 0
+IsReadIfOn addr bytes job taken = taken ≡ Taken.GoesOn → IsReadAs addr bytes job
 
 -- Counts
 

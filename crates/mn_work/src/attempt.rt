@@ -1,4 +1,5 @@
-ghost use Rattle.std.specs.Prelude.{◌≡◌, ◌≤◌, ◌<◌, ◌+◌, [], None, Some, IfOk, length, true, false};
+ghost use Rattle.std.specs.Prelude.{◌≡◌, ◌≤◌, ◌<◌, ◌+◌, [], None, Some, IfOk, OnOk, length, true};
+ghost use Rattle.std.specs.Prelude.{false};
 ghost use Rattle.mn_alloc.specs.Plan.{new_slots};
 ghost use Rattle.mn_base.specs.Store.{step_key};
 ghost use Rattle.mn_base.specs.declared.answer.Busy.{Busy};
@@ -10,10 +11,13 @@ ghost use Rattle.mn_work.specs.Attempts.{Asks, CameBySteps, ComesIn, CountsOn, H
 ghost use Rattle.mn_work.specs.Attempts.{HasStepped, HasUnmet, IsBegun, IsFailure, IsFault};
 ghost use Rattle.mn_work.specs.Attempts.{IsOnItsWay, IsTold, KeepsSteps, KeepsVersion, MayFail};
 ghost use Rattle.mn_work.specs.Attempts.{NamesNoPage, NeedsNone, ReachesOn, RunsFurther, RunsOn};
-ghost use Rattle.mn_work.specs.Attempts.{SameButCounts, SameButFound, StaysOnItsWay, TakesRead};
+ghost use Rattle.mn_work.specs.Attempts.{SameButCounts, SameButFound, StaysLast, StaysOnItsWay};
+ghost use Rattle.mn_work.specs.Attempts.{TakesRead};
 ghost use Rattle.mn_work.specs.Attempts.{WantsNext, was_read};
 ghost use Rattle.mn_work.specs.Cached.{AreUsed, Puts, Walks, next_at, next_of, next_then};
 ghost use Rattle.mn_work.specs.Knows.{ArePages, KeepsKnown};
+ghost use Rattle.mn_work.specs.Last.{AreReadAs};
+ghost use Rattle.mn_work.specs.declared.next.Taken.TheVariants as taken;
 
 use crate::causes::{LEVELS, fault_among};
 use crate::counts::take_count;
@@ -180,6 +184,7 @@ impl Attempt {
         ensures counts { self.new.counts ≡ self.old.counts }
         ensures way { IfOk result (StaysOnItsWay known.new steps.now self.new) }
         ensures later { later ≡ true → self.new.pages ≡ self.old.pages }
+        ensures last { OnOk result (StaysLast known.old.cache self.old self.new) }
         ensures wants { IfOk result (WantsNext known.new later steps.now self.new) }
     {
         let all = steps.as_slice();
@@ -209,6 +214,7 @@ impl Attempt {
         ensures stays { KeepsVersion self.old self.new }
         ensures counts { self.new.counts ≡ self.old.counts }
         ensures later { later ≡ true → self.new.pages ≡ self.old.pages }
+        ensures last { OnOk result (StaysLast known.old.cache self.old self.new) }
         ensures ran { IfOk result (RunsOn known.new later steps.now self.new) }
         ensures further { IfOk result (RunsFurther self.old self.new) }
     {
@@ -299,6 +305,7 @@ impl Attempt {
         ensures stays { KeepsVersion self.old self.new }
         ensures counts { self.new.counts ≡ self.old.counts }
         ensures later { later ≡ true → self.new.pages ≡ self.old.pages }
+        ensures last { OnOk result (StaysLast known.old.cache self.old self.new) }
         ensures done { self.new.done ≡ self.old.done }
         ensures reached { IfOk result (ReachesOn known.new later steps.now addr self.new) }
     {
@@ -328,6 +335,7 @@ impl Attempt {
         ensures cache { AreUsed known.old.cache known.new.cache }
         ensures stays { KeepsVersion self.old self.new }
         ensures counts { self.new.counts ≡ self.old.counts }
+        ensures last { OnOk result (StaysLast known.old.cache self.old self.new) }
         ensures done { self.new.done ≡ self.old.done }
         ensures reached { IfOk result (ReachesOn known.new false steps.now addr self.new) }
     {
@@ -380,8 +388,11 @@ impl Attempt {
         ensures taken { IfOk result (TakesRead known.old later steps.now self.old addr bytes
             self.new) }
         ensures way { IfOk result (CameBySteps known.new steps.now self.new) }
+        ensures read { IfOk result (λ t. t ≡ taken.GoesOn
+            → AreReadAs addr bytes self.new.pages.items) }
     {
         pages_are_known();
+        mn_tree::moves_come_once();
         let key = key_of(&steps.as_slice()[self.done]);
         let Some(page) = page_in(alloc, &bytes)? else {
             self.pages.push(SeenPage {
@@ -441,7 +452,7 @@ impl Attempt {
         ensures { IfOk result (WantsNext known.now later steps.now self.now) }
     {
         let Some(kept) = &known.catalog else {
-            return Err(NoMemory);
+            unreachable!();
         };
         let entry = kept.entry(self.version);
         let mini = unmet_plan(alloc, self.tried(known.nodes, entry, steps))?;
@@ -522,7 +533,7 @@ impl Attempt {
         mn_tree::moves_are_met();
         mn_txn::new_slots_are_next();
         let Some(kept) = &known.catalog else {
-            return Err(NoMemory);
+            unreachable!();
         };
         if was_read(self.pages.as_slice(), slots) {
             return Ok(Next::Fails { cause: None });

@@ -1,4 +1,5 @@
-ghost use Rattle.std.specs.Prelude.{◌≡◌, ◌≢◌, ◌<◌, ◌≤◌, [], false, true, None, IfErr, IfOk, length};
+ghost use Rattle.std.specs.Prelude.{◌≡◌, ◌≢◌, ◌<◌, ◌≤◌, [], false, true, None, IfErr, IfOk, OnOk};
+ghost use Rattle.std.specs.Prelude.{length};
 ghost use Rattle.mn_base.specs.Tree.{has_version};
 ghost use Rattle.mn_page.specs.Grammar.{IsPage};
 ghost use Rattle.mn_page.specs.Space.{max_slots};
@@ -6,8 +7,8 @@ ghost use Rattle.mn_alloc.specs.Plan.{next_slot};
 ghost use Rattle.mn_work.specs.Cached.{AreUsed, Puts, Walks, next_of, next_then};
 ghost use Rattle.mn_work.specs.Children.{CountsOn, DoesChild, HasRead, IsOnItsWay, IsPlanFor};
 ghost use Rattle.mn_work.specs.Children.{KeepsTry, MayPlan, RefusesChild, SameButCounts};
-ghost use Rattle.mn_work.specs.Children.{StaysOnItsWay, TakesRoot, TakesRootBytes, WantsEnd};
-ghost use Rattle.mn_work.specs.Children.{WantsNext, WantsRoot, failing, may_copy_by};
+ghost use Rattle.mn_work.specs.Children.{StaysLast, StaysOnItsWay, TakesRoot, TakesRootBytes};
+ghost use Rattle.mn_work.specs.Children.{WantsEnd, WantsNext, WantsRoot, failing, may_copy_by};
 ghost use Rattle.mn_work.specs.Knows.{ArePages, KeepsKnown};
 
 use crate::counts::take_count;
@@ -67,10 +68,11 @@ fn plan_for(
     slot: Addr,
 ) -> Result<Minitransaction, PlanError>
     requires may { MayPlan nodes catalog.now op.now root.now slot }
-    ensures planned { IfOk result (DoesChild catalog.now op.now) }
+    ensures planned { IfOk result (DoesChild catalog.now op.now root.now) }
     ensures made { IfOk result (IsPlanFor nodes catalog.now op.now root.now slot) }
     ensures refused { IfErr result (RefusesChild catalog.now op.now root.now) }
 {
+    catalog.entries();
     match op {
         Op::Snapshot { version, child } => {
             snapshot_plan(alloc, nodes, catalog, version, child, root, slot)
@@ -186,6 +188,7 @@ impl Child {
         ensures stays { KeepsTry self.old self.new }
         ensures way { IfOk result (StaysOnItsWay known.new op.now self.new) }
         ensures later { later ≡ true → self.new ≡ self.old }
+        ensures last { OnOk result (StaysLast known.old.cache self.old self.new) }
         ensures wants { IfOk result (WantsNext known.new later op.now self.new) }
     {
         if self.page.is_some() {
@@ -226,6 +229,7 @@ impl Child {
         ensures cache { Walks later (next_then result) known.old.cache known.new.cache }
         ensures stays { KeepsTry self.old self.new }
         ensures later { later ≡ true → self.new ≡ self.old }
+        ensures last { OnOk result (StaysLast known.old.cache self.old self.new) }
         ensures wants { IfOk result (WantsRoot known.old later self.old self.new) }
     {
         if !known.has_node(self.root) {
@@ -251,6 +255,7 @@ impl Child {
         ensures kept { KeepsKnown known.old known.new }
         ensures cache { AreUsed known.old.cache known.new.cache }
         ensures stays { KeepsTry self.old self.new }
+        ensures last { OnOk result (StaysLast known.old.cache self.old self.new) }
         ensures wants { IfOk result (WantsRoot known.old false self.old self.new) }
     {
         let page = match known.cache.get(self.root) {
@@ -297,7 +302,7 @@ impl Child {
         ensures { IfOk result (WantsEnd known.now later op.now self.now) }
     {
         let (Some(kept), Some(root)) = (&known.catalog, &self.page) else {
-            return Err(NoMemory);
+            unreachable!();
         };
         if slot == self.root {
             return Ok(Next::Fails { cause: None });

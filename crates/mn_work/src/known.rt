@@ -1,5 +1,6 @@
-ghost use Rattle.std.specs.Prelude.{◌≡◌, IfOk, IfSome, OnErr, OnOk, nat_lt};
+ghost use Rattle.std.specs.Prelude.{◌≡◌, IfOk, IfSome, None, OnErr, OnOk, Some, nat_lt};
 ghost use Rattle.std.specs.Option.{option_map};
+ghost use Rattle.mn_cache.specs.Pages.{page_at};
 ghost use Rattle.mn_page.specs.Grammar.{IsPage, page_bytes};
 ghost use Rattle.mn_work.specs.Cached.{AreUsed, with_inner};
 ghost use Rattle.mn_work.specs.Catalogs.{found, refusal_by, root_by};
@@ -35,11 +36,14 @@ impl Known {
     }
 
     /// Keeps the catalog that the bytes spell, in place of the older one. Whether they spell one.
+    /// NoMemory: there was no memory for it, and the older one is forgotten too, since these bytes
+    /// were read after it.
     pub fn learn(&mut self, alloc: Global, bytes: &SharedBytes) -> Result<bool, NoMemory>
         ensures learnt { IfOk result (LearnsFrom bytes.now self.new.catalog) }
-        ensures left { OnErr result (self.new.catalog ≡ self.old.catalog) }
+        ensures left { OnErr result (self.new.catalog ≡ None) }
         ensures kept { (self.new.nodes ≡ self.old.nodes) × (self.new.cache ≡ self.old.cache) }
     {
+        self.catalog = None;
         self.catalog = kept_of(alloc, bytes)?;
         Ok(self.catalog.is_some())
     }
@@ -114,6 +118,8 @@ impl Known {
         ensures used { AreUsed self.old.cache self.new.cache }
         ensures page { IfOk result (λ kept. IfSome kept (λ s. IsPage s.page)) }
         ensures spelled { IfOk result (λ kept. IfSome kept (λ s. s.bytes ≡ page_bytes s.page)) }
+        ensures found { IfOk result (λ kept. IfSome kept (λ s.
+            page_at addr self.old.cache ≡ Some s.page)) }
     {
         match self.cache.get(addr) {
             Some(spelled) => Ok(Some(spelled.try_copy(alloc)?)),

@@ -128,7 +128,7 @@ fn reach_anew(scan: &ScanRun, known: &mut Known) -> Option<Next>
 }
 
 /// The page that a scan needs next and that isn't kept, in a first try. None where the scan has
-/// ended.
+/// ended. It fails where it went on at as many pages as a path has.
 fn reach_kept(
     alloc: Global,
     scan: &mut ScanRun,
@@ -158,7 +158,7 @@ fn reach_kept(
             Passage::Fails { cause } => return Ok(Some(Next::Fails { cause })),
         }
     }
-    Err(NoMemory)
+    Ok(Some(Next::Fails { cause: None }))
 }
 
 /// The page that a scan needs next and that isn't kept. A page that may be a leaf, and in a later

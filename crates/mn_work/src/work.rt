@@ -1,4 +1,5 @@
 ghost use Rattle.std.specs.Prelude.{◌≡◌, ◌≢◌, ◌<◌, ◌≤◌, ℕ, List, None, Some, IfOk, length, OnOk};
+ghost use Rattle.std.specs.Prelude.{false};
 ghost use Rattle.std.specs.Option.{option_map};
 ghost use Rattle.mn_base.specs.declared.answer.Answer.TheVariants as answer;
 ghost use Rattle.mn_base.specs.declared.reply.Reply.TheVariants.{Pairs};
@@ -8,12 +9,13 @@ ghost use Rattle.mn_work.specs.declared.work.Job.TheVariants as at;
 ghost use Rattle.mn_work.specs.declared.work.Started.TheVariants as started;
 ghost use Rattle.mn_work.specs.declared.get.Descent.{Descent};
 ghost use Rattle.mn_base.specs.declared.op.Op.{Op};
-ghost use Rattle.mn_work.specs.Cached.{Puts, Walks, next_of};
-ghost use Rattle.mn_work.specs.Knows.{ArePages, KeepsKnown, LearnsOrKeeps};
+ghost use Rattle.mn_work.specs.Cached.{Replaces, Walks, next_of};
+ghost use Rattle.mn_work.specs.Knows.{ArePages, KeepsKnown, LearnsOrForgets};
 ghost use Rattle.mn_work.specs.Paths.{GetsAt, HasCurrentPath, LeadsTo, WantsLeaf};
 ghost use Rattle.mn_work.specs.Walks.{is_later};
 ghost use Rattle.mn_work.specs.Works.{AsksCount, AsksPage, BeginsJob, GoesOnBy, IsJobIfOn};
-ghost use Rattle.mn_work.specs.Works.{IsJobOf, IsScan, IsStartable, KeepsOp, MayStart, StartsBy};
+ghost use Rattle.mn_work.specs.Works.{IsJobOf, IsReadIfOn, IsScan, IsStartable, KeepsOp, MayStart};
+ghost use Rattle.mn_work.specs.Works.{StartsBy, StaysLast};
 ghost use Rattle.mn_work.specs.Works.{TakesCatalog, TakesCountBytes, TakesPageBytes, WantsNext};
 ghost use Rattle.mn_work.specs.Works.{BeginsSteps, IsScanOp};
 ghost use Rattle.mn_work.specs.Works.{ends_with, lacks_catalog, lone_key, new_work, retried};
@@ -162,6 +164,7 @@ impl Work {
         ensures cache { Walks (is_later self.old.failed) (next_of result)
             known.old.cache known.new.cache }
         ensures op { KeepsOp self.old self.new }
+        ensures last { OnOk result (StaysLast known.old.cache self.old.job self.new.job) }
         ensures wants { IfOk result (WantsNext known.new self.old self.new) }
         ensures path { (op : Op) (leaf : Descent) → self.old ≡ new_work op
             → HasCurrentPath known.old op leaf → IfOk result (WantsLeaf leaf self.new) }
@@ -179,13 +182,15 @@ impl Work {
     fn begin(&mut self, alloc: Global, known: &Known) -> Result<(), NoMemory>
         requires job { self.old.job ≡ at.Start }
         requires may { MayStart known.now self.old }
+        requires enough { lacks_catalog known.now.catalog self.old ≡ false }
         ensures op { KeepsOp self.old self.new }
         ensures starts { IfOk result (λ _. StartsBy known.now self.old self.new started.On) }
         ensures right { IfOk result (λ _. IsJobOf known.now self.new) }
     {
         match self.start(alloc, known)? {
             Started::On => Ok(()),
-            Started::Replies { .. } | Started::Moved => Err(NoMemory),
+            Started::Replies { .. } => unreachable!(),
+            Started::Moved => unreachable!(),
         }
     }
 
@@ -197,7 +202,7 @@ impl Work {
         ensures right { IfOk result (IsJobIfOn known.now self.new) }
     {
         let Some(kept) = &known.catalog else {
-            return Err(NoMemory);
+            unreachable!();
         };
         let Some(name) = version_of(self.op.get()) else {
             return Ok(Started::Replies {
@@ -207,7 +212,7 @@ impl Work {
             });
         };
         let Some((version, root)) = kept.root_of(name) else {
-            return Err(NoMemory);
+            unreachable!();
         };
         if let Job::Scan { scan } = &self.job {
             if scan.root() == root {
@@ -322,6 +327,7 @@ impl Work {
         ensures cache { Walks (is_later self.old.failed) (next_of result)
             known.old.cache known.new.cache }
         ensures op { KeepsOp self.old self.new }
+        ensures last { OnOk result (StaysLast known.old.cache self.old.job self.new.job) }
         ensures wants { IfOk result (GoesOnBy known.new self.old self.new) }
         ensures path { (key : List ℕ) (d leaf : Descent) → self.old.failed ≡ 0
             → GetsAt self.old key d → LeadsTo known.old key d leaf
@@ -378,7 +384,7 @@ impl Work {
     ) -> Result<Taken, NoMemory>
         requires startable { IsStartable self.old.op self.old.job }
         ensures kept { (known.new.nodes ≡ known.old.nodes) × (known.new.cache ≡ known.old.cache) }
-        ensures learns { LearnsOrKeeps bytes.now known.old.catalog known.new.catalog }
+        ensures learns { LearnsOrForgets bytes.now known.new.catalog }
         ensures op { KeepsOp self.old self.new }
         ensures taken { IfOk result (TakesCatalog bytes.now self.old known.new self.new) }
         ensures right { IfOk result (λ t. t ≡ taken.GoesOn → IsJobOf known.new self.new) }
@@ -415,11 +421,13 @@ impl Work {
         requires job { IsJobOf known.old self.old }
         requires asks { AsksPage known.old self.old addr }
         ensures kept { KeepsKnown known.old known.new }
-        ensures cache { Puts addr bytes known.old.cache known.new.cache result }
+        ensures cache { Replaces addr bytes known.old.cache known.new.cache result }
         ensures op { KeepsOp self.old self.new }
         ensures taken { IfOk result (TakesPageBytes known.old addr bytes self.old self.new) }
+        ensures read { IfOk result (IsReadIfOn addr bytes self.new.job) }
     {
         let later = self.is_later();
+        known.cache.drop_page(addr);
         match (&mut self.job, self.op.get()) {
             (Job::Get { descent }, Op::Tx { steps, .. }) => match lone_get(steps) {
                 Some(key) => descent.take_page(alloc, known, key, &bytes),

@@ -29,3 +29,4 @@ pub mod SevenTriesAnew
 pub mod ScanTries
 pub mod TriesLegal
 pub mod ShownPlaces
+pub mod Numbers

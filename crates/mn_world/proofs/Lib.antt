@@ -6,4 +6,5 @@ pub mod Commits
 pub mod Plans
 pub mod Examples
 pub mod Computed
+pub mod Settled
 pub mod Meaning

@@ -7,3 +7,4 @@ pub mod NewCalls
 pub mod Unchanged
 pub mod MakeRun
 pub mod Gathered
+pub mod Last

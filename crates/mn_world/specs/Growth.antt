@@ -20,8 +20,10 @@ use Rattle.mn_page.specs.Holds.{PagesAt, Holds, IsTree, ShowsStore}
 use Rattle.mn_page.specs.Overlay.{Held, held_at}
 use Rattle.mn_world.specs.declared.entry.Entry.{Entry}
 use Rattle.mn_world.specs.Planned.{HasNextNumber, ComparesHold}
+use Rattle.mn_world.specs.Places.{catalog_node, entry_place, number_size}
+use Rattle.mn_world.specs.Shown.{ShowsLast}
 use Rattle.mn_world.specs.Plans.{compare_page, compare_entry, write_page, compare_count}
-use Rattle.mn_world.specs.Plans.{write_count}
+use Rattle.mn_world.specs.Plans.{write_count, ShowsPage, ShowsEntry}
 
 -- Slots
 
@@ -156,24 +158,30 @@ WritesLeaveVersions =
 
 -- Compares
 
--- the place of a version that isn't there
+-- the place of a version that isn't there, and that the list has shown so
 abbrev pub compare_unused : ℕ → Item
-compare_unused v = Compare (node_no 0) (entry_start v) (replicate entry_size 0)
+compare_unused v = Compare (node_no 0) (entry_start v) (replicate number_size 0)
 
--- where a plan's compares are met, the forest has just what they name
-pub record AreMet (f : Forest) (items : List Item) : Type 0 where
-  pub pages : (addr : Addr) (p : Page) → Contains items (compare_page addr p)
+abbrev pub ShowsUnused : List Entry → ℕ → Type 0
+ShowsUnused es v =
+    ShowsLast es (entry_place catalog_node v) (replicate number_size 0) (replicate entry_size 0)
+
+-- where a plan's compares hold for a client with this list, the forest has just what the list has
+-- shown last with the numbers that they name
+pub record AreMet (es : List Entry) (f : Forest) (items : List Item) : Type 0 where
+  pub pages : (addr : Addr) (p : Page) → Contains items (compare_page addr p) → ShowsPage es addr p
       → addr.node.0 < node_count f → IsPage p → page_at f addr ≡ Some p
-  pub entries : (v : ℕ) (e : CatEntry) → Contains items (compare_entry v e) → v < max_versions
-      → IsEntry e → slice_get f.entries v ≡ Some e
-  pub unused : (v : ℕ) → Contains items (compare_unused v) → v < max_versions → length f.entries ≤ v
+  pub entries : (v : ℕ) (e : CatEntry) → Contains items (compare_entry v e) → ShowsEntry es v e
+      → v < max_versions → IsEntry e → slice_get f.entries v ≡ Some e
+  pub unused : (v : ℕ) → Contains items (compare_unused v) → ShowsUnused es v → v < max_versions
+      → length f.entries ≤ v
   pub counts : (n : NodeNo) (count : ℕ) → Contains items (compare_count n count)
       → n.0 < node_count f → count < 2 ^ 64 → count ≡ count_in f n.0
 
 abbrev pub ComparesTell : Type 0
 ComparesTell =
     (es : List Entry) (memory : List (List ℕ)) (store : Store) (holds : Holds memory store)
-    (items : List Item) → ComparesHold es memory items → AreMet holds.forest items
+    (items : List Item) → ComparesHold es memory items → AreMet es holds.forest items
 
 -- Numbers
 

@@ -18,6 +18,7 @@ pub mod Laws
 pub mod Plans
 pub mod Growth
 pub mod Meaning
+pub mod Settled
 pub mod Causes
 pub mod OneHistory
 pub mod Undisturbed

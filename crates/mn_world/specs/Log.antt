@@ -1,5 +1,6 @@
 -- The log of a whole run, whose entries stay in the lists of its actors.
-use Rattle.std.specs.Prelude.{ℕ, ◌<◌, ◌≤◌, ◌-◌, ◌≡◌, nat_eq, if◌then◌else◌, false, List, [], length, map}
+use Rattle.std.specs.Prelude.{ℕ, ◌<◌, ◌≤◌, ◌-◌, ◌≡◌, nat_eq, if◌then◌else◌, false, List, [], length}
+use Rattle.std.specs.Prelude.{map}
 use Rattle.std.specs.Prelude.{get_or, None}
 use Rattle.mn_world.specs.declared.entry.Entry.{Entry}
 use Rattle.mn_world.specs.declared.entry.What.TheVariants.{Restarted}

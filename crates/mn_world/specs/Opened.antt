@@ -15,6 +15,7 @@ use Rattle.mn_mini.specs.Mini.{parts_conflict}
 use Rattle.mn_mini.specs.Node.{is_of, HeldPart, held_parts, is_held, has_voted, has_executed}
 use Rattle.mn_mini.specs.Node.{has_decided_yes, has_decided_no, space_of, with_held}
 use Rattle.mn_page.specs.Holds.{Holds}
+use Rattle.mn_world.specs.Places.{Place, IsNumbered, number_in, content_in, WritesWhole}
 use Rattle.mn_world.specs.Protocol.{Start, start_nodes, base_at, start_records}
 
 -- Committed
@@ -82,6 +83,18 @@ pub record AreSound (nodes : ℕ) (lists : NodeNo → List Record) : Type 0 wher
       → has_decided_no (lists n) tid ≡ true
       → (is_committed nodes lists tid ≡ false) × (has_decided_yes (lists m) tid ≡ false)
 
+-- Numbers
+
+-- at the place of a page or an entry, what is held of committed ids writes the whole place, if it
+-- meets it, with a greater number than the place has in the space
+abbrev pub HeldAreGreater : ℕ → (NodeNo → List ℕ) → (NodeNo → List Record) → Type 0
+HeldAreGreater nodes bases lists =
+    (place : Place) → IsNumbered place → place.node.0 < nodes
+    → AllByRecursion (λ h. is_committed nodes lists h.tid ≡ true
+    → AllByRecursion (WritesWhole place (λ bytes.
+    number_in (content_in (space_of (bases place.node) (lists place.node)) place)
+    < number_in bytes)) h.part) (held_parts (lists place.node))
+
 -- The memory
 
 -- each node's space, in which every committed minitransaction is applied whether decided or not
@@ -94,8 +107,10 @@ memory_in nodes bases lists =
 abbrev pub opened_memory : Start → List (List ℕ)
 opened_memory start = memory_in (start_nodes start) (base_at start) (start_records start)
 
--- the records are sound, and their memory holds the store
+-- the records are sound, what they hold of committed ids has greater numbers, and their memory
+-- holds the store
 pub record IsOpened (nodes : ℕ) (bases : NodeNo → List ℕ) (lists : NodeNo → List Record)
     (store : Store) : Type 0 where
   pub sound : AreSound nodes lists
+  pub greater : HeldAreGreater nodes bases lists
   pub holds : Holds (memory_in nodes bases lists) store

@@ -26,7 +26,8 @@ use Rattle.mn_page.specs.Overlay.{Held}
 use Rattle.mn_page.specs.SlotOrder.{AreInSlotOrder}
 use Rattle.mn_world.specs.declared.entry.Entry.{Entry}
 use Rattle.mn_world.specs.Places.{Place, page_place, entry_place, catalog_node, IsPagePlace}
-use Rattle.mn_world.specs.Places.{IsEntryPlace, IsCountPlace}
+use Rattle.mn_world.specs.Places.{IsEntryPlace, IsCountPlace, IsNumbered, front_place, content_in}
+use Rattle.mn_world.specs.Shown.{ShowsLast, ShowsNumber}
 
 -- Places of items
 
@@ -87,6 +88,12 @@ IsCompared f store v (Branch version child) mini place =
 IsCompared f store v (Scan version low high limit) mini place = ⊥
 IsCompared f store v Versions mini place = ⊥
 
+-- of just these places the first 8 bytes are compared: the number of a page or an entry, the whole
+-- of a count
+abbrev pub IsComparedFront : Forest → Store → ℕ → Op → Mini → Place → Type 0
+IsComparedFront f store v op mini range =
+    (place : Place) × IsCompared f store v op mini place × (range ≡ front_place place)
+
 -- Numbers and order
 
 -- the place's number in the memory is the one before that of the bytes written; a free place has 0
@@ -145,7 +152,8 @@ pub record WritesPages (f : Forest) (mini : Mini) : Type 0 where
   pub new : List Held
   pub others : List Place
   pub written : write_places mini ≡ map page_place (changed ++ map (λ h. h.addr) new) ++ others
-  pub as_compared : IsPickOf (map page_place changed) (compare_places mini)
+  pub as_compared : IsPickOf (map (λ addr. front_place (page_place addr)) changed)
+      (compare_places mini)
   -- there was no page at the address of a new one, and what is written there is the page
   pub free : AllByRecursion (λ h. page_at f h.addr ≡ None) new
   pub items : AllByRecursion (λ h. IsPage h.page × Contains mini.items (page_write h)) new
@@ -184,8 +192,8 @@ pub record PlanActs (memory : List (List ℕ)) (store : Store) (holds : Holds me
   pub effect : Holds (memory_after memory mini.items) (applied store op).store
   pub replies : reply ≡ (applied store op).reply
   pub compares : (v : ℕ) → number_named (heads_of store) (op_version op) ≡ Some v
-      → (place : Place)
-      → Contains (compare_places mini) place ↔ IsCompared holds.forest store v op mini place
+      → (range : Place)
+      → Contains (compare_places mini) range ↔ IsComparedFront holds.forest store v op mini range
   -- where there is no such version it compares nothing
   pub nowhere : number_named (heads_of store) (op_version op) ≡ None → compare_places mini ≡ []
   -- each write is of a whole page, entry or count, each of which is written once
@@ -194,15 +202,33 @@ pub record PlanActs (memory : List (List ℕ)) (store : Store) (holds : Holds me
   pub numbers : AllByRecursion (HasNextNumber memory) mini.items
   pub pages : WritesPages holds.forest mini
 
--- the items' compares hold in the memory, for a client with this list
+-- where an item compares the first 8 bytes of a page or an entry, this holds of that place and of
+-- the item's bytes
+abbrev pub OnNumber : (Place → List ℕ → Type 0) → Item → Type 0
+OnNumber P (Compare node start bytes) =
+    (place : Place) → IsNumbered place
+    → front_place place ≡ record { node = node; start = start; length = length bytes }
+    → P place bytes
+OnNumber P (Read node start length) = ⊤
+OnNumber P (Write node start bytes) = ⊤
+
+-- the memory's whole place is as the list showed it last with that number
+abbrev pub AgreesWith : List Entry → List (List ℕ) → Place → List ℕ → Type 0
+AgreesWith es memory place number =
+    ShowsLast es place number (content_in (space_in memory place.node) place)
+
+-- the items' compares hold in the memory, which agrees with this client's list
 pub record ComparesHold (es : List Entry) (memory : List (List ℕ)) (items : List Item)
     : Type 0 where
+  pub agrees : AllByRecursion (OnNumber (AgreesWith es memory)) items
   pub met : mismatch_from memory 0 items ≡ None
 
--- wherever its compares hold for a client with this list, in a memory that holds a store that
--- continues the kept catalog, it does what the operation does
+-- of each number that it compares the client's list shows the place; and wherever its compares
+-- hold, in a memory that agrees with the list and holds a store that continues the kept catalog, it
+-- does what the operation does
 pub record IsPlanned (es : List Entry) (kept : List Head) (op : Op) (mini : Mini) (reply : Reply)
     : Type 0 where
+  pub shown : AllByRecursion (OnNumber (ShowsNumber es)) mini.items
   pub acts : (memory : List (List ℕ)) (store : Store) → length memory ≡ mini.nodes
       → AllByRecursion (λ space. length space ≡ space_size) memory
       → (holds : Holds memory store) → ContinuesCatalog kept (heads_of store)

@@ -19,16 +19,26 @@ use Rattle.mn_page.specs.Space.{count_start, count_size, entry_start, slot_start
 use Rattle.mn_page.specs.Grammar.{page_bytes, entry_bytes, IsPage, IsEntry, IsKey, IsValue}
 use Rattle.mn_page.specs.Holds.{page_covers}
 use Rattle.mn_world.specs.declared.entry.Entry.{Entry}
-use Rattle.mn_world.specs.Places.{catalog_node}
+use Rattle.mn_world.specs.Places.{catalog_node, page_place, entry_place, number_size}
+use Rattle.mn_world.specs.Shown.{ShowsLast}
 use Rattle.mn_world.specs.Planned.{IsPlanned}
 
 -- Items
 
+-- a page and an entry are compared by their number
 abbrev pub compare_page : Addr → Page → Item
-compare_page addr p = Compare addr.node (slot_start addr.slot) (page_bytes p)
+compare_page addr p = Compare addr.node (slot_start addr.slot) (big_bytes number_size p.seq)
 
 abbrev pub compare_entry : ℕ → CatEntry → Item
-compare_entry v e = Compare catalog_node (entry_start v) (entry_bytes e)
+compare_entry v e = Compare catalog_node (entry_start v) (big_bytes number_size e.seq)
+
+-- which the list has shown last with this number
+abbrev pub ShowsPage : List Entry → Addr → Page → Type 0
+ShowsPage es addr p = ShowsLast es (page_place addr) (big_bytes number_size p.seq) (page_bytes p)
+
+abbrev pub ShowsEntry : List Entry → ℕ → CatEntry → Type 0
+ShowsEntry es v e =
+    ShowsLast es (entry_place catalog_node v) (big_bytes number_size e.seq) (entry_bytes e)
 
 abbrev pub write_page : Addr → Page → Item
 write_page addr p = Write addr.node (slot_start addr.slot) (page_bytes p)
@@ -76,7 +86,8 @@ abbrev pub PutIsPlanned : Type 0
 PutIsPlanned =
     (kept : List Head) (nodes : ℕ) (name key value : List ℕ) (v : ℕ) (e : CatEntry) (addr : Addr)
     (p : Page) (pairs : List Pair) → IsLeafWithRoom kept nodes name key value v e addr p pairs
-    → (es : List Entry) → IsPlanned es kept (Tx name (Put key value ∷ []))
+    → (es : List Entry) → ShowsPage es addr p → ShowsEntry es v e
+    → IsPlanned es kept (Tx name (Put key value ∷ []))
     (put_in_place nodes key value v e addr p pairs) (Values [])
 
 -- A Put that splits a root leaf, with both new slots on one node
@@ -144,5 +155,6 @@ SplitIsPlanned =
     (pairs : List Pair) (n : NodeNo) (count : ℕ) (lows : List Pair) (first : Pair)
     (more : List Pair)
     → HasSplit kept nodes name key value v e p pairs n count lows first more
-    → (es : List Entry) → IsPlanned es kept (Tx name (Put key value ∷ []))
+    → (es : List Entry) → ShowsPage es e.root p → ShowsEntry es v e
+    → IsPlanned es kept (Tx name (Put key value ∷ []))
     (record { nodes = nodes; items = split_items v e p n count lows first more }) (Values [])

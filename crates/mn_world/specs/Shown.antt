@@ -30,6 +30,7 @@ use Rattle.mn_page.specs.Holds.{page_covers, page_serves, pairs_in}
 use Rattle.mn_world.specs.declared.entry.Entry.{Entry}
 use Rattle.mn_world.specs.Calls.{call_in, calls_of}
 use Rattle.mn_world.specs.Places.{Place, page_place, entry_place, catalog_node, catalog_place}
+use Rattle.mn_world.specs.Places.{number_size}
 
 -- Bytes that were read
 
@@ -84,6 +85,28 @@ pub record GivesPlace (seen : Seen) (place : Place) (bytes : List ℕ) : Type 0 
 abbrev pub ShowsPlace : List Entry → Place → List ℕ → Type 0
 ShowsPlace es place bytes =
     (seen : Seen) × Contains (shown_in es) seen × GivesPlace seen place bytes
+
+-- a read gives the whole place, with bytes that begin so
+abbrev pub GivesFrom : Seen → Place → List ℕ → List ℕ → Type 0
+GivesFrom seen place number bytes =
+    GivesPlace seen place bytes × (take number_size bytes ≡ number)
+
+-- of these reads, the first that gives bytes of the place that begin so gives these
+abbrev pub FirstGives : List Seen → Place → List ℕ → List ℕ → Type 0
+FirstGives [] place number bytes = ⊥
+FirstGives (seen ∷ seens) place number bytes =
+    GivesFrom seen place number bytes
+    ⊎ (((other : List ℕ) → GivesFrom seen place number other → ⊥)
+    × FirstGives seens place number bytes)
+
+-- the last bytes of the place that the list shows, of those that begin so
+abbrev pub ShowsLast : List Entry → Place → List ℕ → List ℕ → Type 0
+ShowsLast es place number bytes = FirstGives (shown_in es) place number bytes
+
+-- the list shows bytes of the place that begin so
+abbrev pub ShowsNumber : List Entry → Place → List ℕ → Type 0
+ShowsNumber es place number =
+    (bytes : List ℕ) × ShowsPlace es place bytes × (take number_size bytes ≡ number)
 
 -- a read of the catalog with these entries
 abbrev pub SeesCatalog : Seen → List CatEntry → Type 0

@@ -14,6 +14,7 @@ ghost use Rattle.mn_world.specs.OneHistory.{RunsHaveHistory, RunsAreOneHistory};
 ghost use Rattle.mn_world.specs.Meaning.{HistoryIsOne, CommittedStands, OnlyThoseStand};
 ghost use Rattle.mn_world.specs.Meaning.{PlansLieBehind, OnePlanEach, HoldsThroughout, StaysOpened};
 ghost use Rattle.mn_world.specs.Meaning.{EndsOpened, StopsLeaveOpened, FrozenNeverChanges};
+ghost use Rattle.mn_world.specs.Settled.{PlacesAreSettled};
 ghost use Rattle.mn_world.specs.Scans.{GatheredStays, LeavesAreGathered, GatheredIsShown};
 ghost use Rattle.mn_world.specs.Causes.{LockWasHeld, LockOfOther, ForcedStands, ForcedByOther};
 ghost use Rattle.mn_world.specs.Causes.{MovedByOther, PathByOther};
@@ -254,6 +255,11 @@ pub fn ends_opened()
 /// Whatever stops and restarts come behind a run, the records that they leave are opened.
 pub fn stops_leave_opened()
     ensures { StopsLeaveOpened }
+{}
+
+/// The contents that a page's or an entry's place had are equal if their numbers are.
+pub fn places_are_settled()
+    ensures { PlacesAreSettled }
 {}
 
 /// A version that is frozen at one place stands unchanged at every later one.

@@ -43,8 +43,8 @@ fn entry_at<'a>(lists: &'a [Vec<(u64, Entry)>], spot: Spot) -> &'a (u64, Entry)
     &lists[spot.list as usize][spot.place as usize - 1]
 }
 
-/// The order in which a lone list has its entries. NoMemory: there was no memory for it, or they are
-/// too many.
+/// The order in which a lone list has its entries. NoMemory: there was no memory for it, or they
+/// are too many.
 fn in_order(alloc: Global, entries: &[(u64, Entry)]) -> Result<Vec<Spot>, NoMemory>
     ensures spots { IfOk result (λ order. AreSpots (entries.now ∷ []) order.items) }
     ensures order { IfOk result (λ order. log_of (entries.now ∷ []) order.items ≡ entries.now) }

@@ -1,6 +1,7 @@
 //! How a try goes on to what it wants next: a read, by a Peek or by a minitransaction, its plan,
 //! or its end.
-ghost use Rattle.std.specs.Prelude.{◌≡◌, ◌≤◌, ◌<◌, List, IfOk, OnErr, None, true};
+ghost use Rattle.std.specs.Prelude.{◌≡◌, ◌≤◌, ◌<◌, List, IfOk, OnErr, OnOk, None};
+ghost use Rattle.std.specs.Prelude.{true};
 ghost use Rattle.mn_base.specs.declared.op.Op.{Op};
 ghost use Rattle.mn_mini.specs.Mini.{IsInSpace, IsSound};
 ghost use Rattle.mn_txn.specs.Tries.{FreeSlotsAreLeft, TriesShowCauses, WornPagesShow};
@@ -8,7 +9,7 @@ ghost use Rattle.mn_world.specs.declared.entry.Entry.{Entry};
 ghost use Rattle.mn_world.specs.Places.{catalog_place};
 ghost use Rattle.mn_proxy.specs.declared.errand.Purpose.TheVariants as purposes;
 ghost use Rattle.mn_work.specs.declared.get.Descent.{Descent};
-ghost use Rattle.mn_proxy.specs.Agrees.{IsAtRest, IsOwn, IsPlaceFor, MayPeekFor};
+ghost use Rattle.mn_proxy.specs.Agrees.{IsAtRest, IsOwn, IsOwnLast, IsPlaceFor, MayPeekFor};
 ghost use Rattle.mn_work.specs.Cached.{Walks, next_of};
 ghost use Rattle.mn_proxy.specs.Kept.{CacheTurns, CatalogTurns, GoesWith, Issues, Reads};
 ghost use Rattle.mn_work.specs.Knows.{KeepsKnown};
@@ -21,7 +22,8 @@ ghost use Rattle.mn_proxy.specs.Turns.{IsSoundTurn, KeepsSelf, MayIssue, TurnAgr
 ghost use Rattle.mn_proxy.specs.Turns.{read_mini, with_known};
 ghost use Rattle.mn_proxy.specs.Turn.{turned};
 ghost use Rattle.mn_work.specs.Walks.{is_later};
-ghost use Rattle.mn_work.specs.Works.{IsJobOf, IsStartable, KeepsOp, WantsNext, new_work};
+ghost use Rattle.mn_work.specs.Works.{IsJobOf, IsStartable, KeepsOp, StaysLast, WantsNext};
+ghost use Rattle.mn_work.specs.Works.{new_work};
 
 use super::{PEEKS, Proxy};
 use crate::errand::{Errand, Purpose};
@@ -85,7 +87,8 @@ impl Proxy {
         ensures sound { IfOk (turned self.new.work result) (IsSoundTurn self.new.known) }
         ensures turns { (es : List Entry) → IsOwn es self.old → IsAtRest es self.old.known work
             → IfOk (turned self.new.work result) (TurnAgrees es self.new) }
-        ensures left { (es : List Entry) → IsOwn es self.old → OnErr result (IsOwn es self.new) }
+        ensures left { (es : List Entry) → IsOwnLast es self.old
+            → OnErr result (IsOwnLast es self.new) }
         ensures kept { KeepsSelf self.old self.new × OnErr result (self.new.work ≡ None) }
         ensures falls { IfOk (turned self.new.work result)
             (GoesBelow (left_after self.old) self.new) }
@@ -122,6 +125,7 @@ impl Proxy {
         ensures same { self.new ≡ with_known self.old self.new.known }
         ensures kept { KeepsKnown self.old.known self.new.known }
         ensures op { KeepsOp work.old work.new }
+        ensures last { OnOk result (StaysLast self.old.known.cache work.old.job work.new.job) }
         ensures wants { IfOk result (WantsNext self.new.known work.old work.new) }
         ensures cache { Walks (is_later work.old.failed) (next_of result)
             self.old.known.cache self.new.known.cache }
@@ -151,7 +155,8 @@ impl Proxy {
         ensures sound { IfOk (turned self.new.work result) (IsSoundTurn self.new.known) }
         ensures turns { (es : List Entry) → IsOwn es self.old → IsAtRest es self.old.known work
             → IfOk (turned self.new.work result) (TurnAgrees es self.new) }
-        ensures left { (es : List Entry) → IsOwn es self.old → OnErr result (IsOwn es self.new) }
+        ensures left { (es : List Entry) → IsOwnLast es self.old
+            → OnErr result (IsOwnLast es self.new) }
         ensures kept { KeepsSelf self.old self.new × OnErr result (self.new.work ≡ None) }
         ensures falls { IfOk (turned self.new.work result)
             (GoesBelow (left_after self.old) self.new) }
@@ -182,7 +187,8 @@ impl Proxy {
             → IsPlaceFor work.job purpose (place_of place)
             → (peek ≡ true → (work.failed ≡ 0) × MayPeekFor work.job purpose)
             → IfOk (turned self.new.work result) (TurnAgrees es self.new) }
-        ensures left { (es : List Entry) → IsOwn es self.old → OnErr result (IsOwn es self.new) }
+        ensures left { (es : List Entry) → IsOwnLast es self.old
+            → OnErr result (IsOwnLast es self.new) }
         ensures kept { KeepsSelf self.old self.new × OnErr result (self.new.work ≡ None) }
         ensures falls { IfOk (turned self.new.work result)
             (GoesBelow (left_after self.old) self.new) }
@@ -217,7 +223,8 @@ impl Proxy {
             → IsPlaceFor work.job purpose (place_of place)
             → (work.failed ≡ 0) × MayPeekFor work.job purpose
             → IfOk (turned self.new.work result) (TurnAgrees es self.new) }
-        ensures left { (es : List Entry) → IsOwn es self.old → OnErr result (IsOwn es self.new) }
+        ensures left { (es : List Entry) → IsOwnLast es self.old
+            → OnErr result (IsOwnLast es self.new) }
         ensures kept { KeepsSelf self.old self.new × OnErr result (self.new.work ≡ None) }
         ensures falls { IfOk (turned self.new.work result)
             (GoesBelow (left_after self.old) self.new) }
@@ -256,7 +263,8 @@ impl Proxy {
         ensures turns { (es : List Entry) → IsOwn es self.old
             → MayIssue es self.old.known work purpose mini
             → IfOk (turned self.new.work result) (TurnAgrees es self.new) }
-        ensures left { (es : List Entry) → IsOwn es self.old → OnErr result (IsOwn es self.new) }
+        ensures left { (es : List Entry) → IsOwnLast es self.old
+            → OnErr result (IsOwnLast es self.new) }
         ensures kept { KeepsSelf self.old self.new × OnErr result (self.new.work ≡ None) }
         ensures falls { IfOk (turned self.new.work result)
             (GoesBelow (left_after self.old) self.new) }

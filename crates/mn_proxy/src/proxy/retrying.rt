@@ -1,7 +1,7 @@
 //! How a try fails, and what follows: a later one, or the answer.
 ghost use Rattle.std.specs.Prelude.{◌≡◌, ◌<◌, ◌+◌, List, IfOk, OnErr, None, Some};
 ghost use Rattle.mn_world.specs.declared.entry.Entry.{Entry};
-ghost use Rattle.mn_proxy.specs.Agrees.{IsOwn};
+ghost use Rattle.mn_proxy.specs.Agrees.{IsOwnLast};
 ghost use Rattle.mn_proxy.specs.Kept.{CatalogTurns};
 ghost use Rattle.mn_proxy.specs.Measure.{GoesBelow, left_after};
 ghost use Rattle.mn_proxy.specs.Tries.{max_tries};
@@ -83,10 +83,11 @@ impl Proxy {
         requires few { work.failed < max_tries }
         requires startable { IsStartable work.op (retried_job work.job) }
         ensures sound { IfOk (turned self.new.work result) (IsSoundTurn self.new.known) }
-        ensures turns { (es : List Entry) → IsOwn es self.old
+        ensures turns { (es : List Entry) → IsOwnLast es self.old
             → IsRefused es self.old.known work tid outcome.mini node outcome.reply
             → IfOk (turned self.new.work result) (TurnAgrees es self.new) }
-        ensures left { (es : List Entry) → IsOwn es self.old → OnErr result (IsOwn es self.new) }
+        ensures left { (es : List Entry) → IsOwnLast es self.old
+            → OnErr result (IsOwnLast es self.new) }
         ensures kept { KeepsSelf self.old self.new × OnErr result (self.new.work ≡ None) }
         ensures falls { IfOk (turned self.new.work result)
             (GoesBelow (left_after self.old) self.new) }
@@ -115,10 +116,11 @@ impl Proxy {
         requires few { work.failed < max_tries }
         requires startable { IsStartable work.op (retried_job work.job) }
         ensures sound { IfOk (turned self.new.work result) (IsSoundTurn self.new.known) }
-        ensures turns { (es : List Entry) → IsOwn es self.old
+        ensures turns { (es : List Entry) → IsOwnLast es self.old
             → HasFailed es self.old.known work cause
             → IfOk (turned self.new.work result) (TurnAgrees es self.new) }
-        ensures left { (es : List Entry) → IsOwn es self.old → OnErr result (IsOwn es self.new) }
+        ensures left { (es : List Entry) → IsOwnLast es self.old
+            → OnErr result (IsOwnLast es self.new) }
         ensures kept { KeepsSelf self.old self.new × OnErr result (self.new.work ≡ None) }
         ensures falls { IfOk (turned self.new.work result)
             (GoesBelow (left_after self.old) self.new) }
@@ -142,9 +144,11 @@ impl Proxy {
         requires few { work.failed + 1 < max_tries }
         requires startable { IsStartable work.op (retried_job work.job) }
         ensures sound { IfOk (turned self.new.work result) (IsSoundTurn self.new.known) }
-        ensures turns { (es : List Entry) → IsOwn es self.old → MayRetry es self.old.known work
+        ensures turns { (es : List Entry) → IsOwnLast es self.old
+            → MayRetry es self.old.known work
             → IfOk (turned self.new.work result) (TurnAgrees es self.new) }
-        ensures left { (es : List Entry) → IsOwn es self.old → OnErr result (IsOwn es self.new) }
+        ensures left { (es : List Entry) → IsOwnLast es self.old
+            → OnErr result (IsOwnLast es self.new) }
         ensures kept { KeepsSelf self.old self.new × OnErr result (self.new.work ≡ None) }
         ensures falls { IfOk (turned self.new.work result)
             (GoesBelow (left_after self.old) self.new) }

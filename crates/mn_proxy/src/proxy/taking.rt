@@ -5,11 +5,11 @@ ghost use Rattle.mn_coord.specs.Coordination.{step_of};
 ghost use Rattle.mn_world.specs.declared.entry.Entry.{Entry};
 ghost use Rattle.mn_world.specs.Calls.{since_begin};
 ghost use Rattle.mn_proxy.specs.declared.errand.Errand.TheVariants as errands;
-ghost use Rattle.mn_proxy.specs.Agrees.{AreOverNodes, ErrandAgrees, HasRead, IsOwn, MayWant};
-ghost use Rattle.mn_proxy.specs.Agrees.{MiniAgrees};
+ghost use Rattle.mn_proxy.specs.Agrees.{AreOverNodes, ErrandAgrees, HasRead, IsOwn};
+ghost use Rattle.mn_proxy.specs.Agrees.{IsOwnLast, MayWant, MiniAgrees};
 ghost use Rattle.mn_proxy.specs.Issues.{AreClosed};
-ghost use Rattle.mn_proxy.specs.Kept.{CacheTurns, CatalogTurns, PutsRead, read_by, read_for};
-ghost use Rattle.mn_proxy.specs.Kept.{read_when};
+ghost use Rattle.mn_proxy.specs.Kept.{CacheTurns, CatalogTurns, Forgets, PutsRead, read_by};
+ghost use Rattle.mn_proxy.specs.Kept.{read_for, read_when};
 ghost use Rattle.mn_work.specs.Knows.{ArePages};
 ghost use Rattle.mn_proxy.specs.Measure.{GoesBelow, left_after, left_of};
 ghost use Rattle.mn_proxy.specs.LeafReads.{LeafTurns};
@@ -37,14 +37,15 @@ fn only_read(reads: &[Reads]) -> Option<&ReadBytes>
     Some(bytes)
 }
 
-/// The same, for copies to share. NoMemory: it has read none alone, or there was no memory.
-#[inline(never)]
-fn shared_read(alloc: Global, reads: &[Reads]) -> Result<SharedBytes, NoMemory>
-    ensures { IfOk result (λ bytes. read_alone reads.now ≡ Some bytes) }
+/// Forgets what is kept of the place that was read for this purpose. It takes no memory.
+fn forget(known: &mut Known, purpose: Purpose)
+    ensures { Forgets purpose known.old known.new }
 {
-    match only_read(reads) {
-        Some(bytes) => bytes.to_shared(alloc),
-        None => Err(NoMemory),
+    match purpose {
+        Purpose::Catalog => known.catalog = None,
+        Purpose::Page { addr } => known.cache.drop_page(addr),
+        Purpose::Count => {}
+        Purpose::Plan { reply: _reply } => {}
     }
 }
 
@@ -95,7 +96,7 @@ impl Proxy {
             → OnErr result (MayWant es) }
         ensures left { (es : List Entry) → IsOwn es self.old
             → ErrandAgrees es self.old.known work (errands.Peeked place reply purpose)
-            → OnErr result (IsOwn es self.new) }
+            → OnErr result (IsOwnLast es self.new) }
         ensures kept { KeepsSelf self.old self.new × OnErr result (self.new.work ≡ None) }
         ensures falls { IfOk (turned self.new.work result)
             (GoesBelow (left_after self.old) self.new) }
@@ -142,7 +143,7 @@ impl Proxy {
             → OnErr result (MayWant es) }
         ensures left { (es : List Entry) → IsOwn es self.old
             → MiniAgrees es self.old.known work tid coordinator purpose
-            → OnErr result (IsOwn es self.new) }
+            → OnErr result (IsOwnLast es self.new) }
         ensures kept { KeepsSelf self.old self.new × OnErr result (self.new.work ≡ None) }
         ensures falls { IfOk (turned self.new.work result)
             (GoesBelow (left_after self.old + left_of coordinator) self.new) }
@@ -194,7 +195,7 @@ impl Proxy {
             → OnErr result (MayWant es) }
         ensures left { (es : List Entry) → IsOwn es self.old
             → IsCommitted es self.old.known work reads.now purpose
-            → OnErr result (IsOwn es self.new) }
+            → OnErr result (IsOwnLast es self.new) }
         ensures kept { KeepsSelf self.old self.new × OnErr result (self.new.work ≡ None) }
         ensures falls { IfOk (turned self.new.work result)
             (GoesBelow (left_after self.old) self.new) }
@@ -210,10 +211,51 @@ impl Proxy {
             Purpose::Plan { reply } => Ok(ProxyStep::Done {
                 answer: Answer::Replied { reply },
             }),
-            purpose => match shared_read(alloc, reads) {
-                Ok(bytes) => self.take(alloc, work, purpose, bytes),
-                Err(_) => Err(NoMemory),
+            purpose => match only_read(reads) {
+                Some(bytes) => self.take_copy(alloc, work, purpose, bytes),
+                None => Err(NoMemory),
             },
+        }
+    }
+
+    /// Goes on with a copy of what was read. Where there is no memory for one, what is kept of its
+    /// place is forgotten, since it was read before.
+    #[inline(always)]
+    fn take_copy(
+        &mut self,
+        alloc: Global,
+        work: Task,
+        purpose: Purpose,
+        bytes: &ReadBytes,
+    ) -> Result<ProxyStep, NoMemory>
+        requires idle { self.old.work ≡ None }
+        requires few { work.failed < max_tries }
+        requires waits { WaitsFor self.old.known work purpose }
+        ensures sound { IfOk (turned self.new.work result) (IsSoundTurn self.new.known) }
+        ensures turns { (es : List Entry) → IsOwn es self.old
+            → HasRead es self.old.known work purpose bytes.now → AreClosed (since_begin es)
+            → AreOverNodes self.old.known.nodes work.failed (since_begin es)
+            → IfOk (turned self.new.work result) (TurnAgrees es self.new) }
+        ensures left { (es : List Entry) → IsOwn es self.old
+            → HasRead es self.old.known work purpose bytes.now
+            → OnErr result (IsOwnLast es self.new) }
+        ensures kept { KeepsSelf self.old self.new × OnErr result (self.new.work ≡ None) }
+        ensures falls { IfOk (turned self.new.work result)
+            (GoesBelow (left_after self.old) self.new) }
+        ensures cache { CacheTurns (Some (purpose, bytes.now)) (is_later work.failed)
+            self.old.known.cache self.new.known.cache (turned self.new.work result) }
+        ensures catalog { IfOk (turned self.new.work result)
+            (CatalogTurns (Some (purpose, bytes.now))
+            self.old.known.catalog self.new.known.catalog) }
+        ensures leaf { LeafTurns self.old.known work (Some (purpose, bytes.now))
+            (turned self.new.work result) }
+    {
+        match bytes.to_shared(alloc) {
+            Ok(bytes) => self.take(alloc, work, purpose, bytes),
+            Err(_) => {
+                forget(&mut self.known, purpose);
+                Err(NoMemory)
+            }
         }
     }
 
@@ -235,7 +277,8 @@ impl Proxy {
             → AreOverNodes self.old.known.nodes work.failed (since_begin es)
             → IfOk (turned self.new.work result) (TurnAgrees es self.new) }
         ensures left { (es : List Entry) → IsOwn es self.old
-            → HasRead es self.old.known work purpose bytes → OnErr result (IsOwn es self.new) }
+            → HasRead es self.old.known work purpose bytes
+            → OnErr result (IsOwnLast es self.new) }
         ensures kept { KeepsSelf self.old self.new × OnErr result (self.new.work ≡ None) }
         ensures falls { IfOk (turned self.new.work result)
             (GoesBelow (left_after self.old) self.new) }

@@ -47,10 +47,10 @@ reads_below f space (h ∷ hs) part free =
 
 -- A Done shows that no lock stood in the way, and brings the reads
 
-abbrev WasDone : List ℕ → List Record → Tid → List PartItem → List (List ℕ) → Type 0
+abbrev pub WasDone : List ℕ → List Record → Tid → List PartItem → List (List ℕ) → Type 0
 WasDone base old t part reads = (clash_of (held_parts old) t part ≡ None) × (reads ≡ part_reads (space_of base old) part)
 
-tested_done : (base : List ℕ) (old : List Record) (t : Tid) (part : List PartItem) (added : Option Record) (reads : List (List ℕ)) → (tested base old t part added).reply ≡ Say.Done reads → WasDone base old t part reads
+pub tested_done : (base : List ℕ) (old : List Record) (t : Tid) (part : List PartItem) (added : Option Record) (reads : List (List ℕ)) → (tested base old t part added).reply ≡ Say.Done reads → WasDone base old t part reads
 tested_done base old t part added reads is = locks (clash_of (held_parts old) t part) refl is
   where
     same : (xs ys : List (List ℕ)) → Say.Done xs ≡ Say.Done ys → xs ≡ ys
@@ -72,7 +72,7 @@ prepare_done base old t ps part reads is =
     ] is
 
 -- the node was up
-up : (start : Start) (past : List Entry) (k : NodeNo) (request : Request) (reads : List (List ℕ)) (down : Bool) → Say.Done reads ≡ (if down then Say.Down else (answer (base_at start k) (records_of start past k) request).reply)
+pub up : (start : Start) (past : List Entry) (k : NodeNo) (request : Request) (reads : List (List ℕ)) (down : Bool) → Say.Done reads ≡ (if down then Say.Down else (answer (base_at start k) (records_of start past k) request).reply)
     → (answer (base_at start k) (records_of start past k) request).reply ≡ Say.Done reads
 up start past k request reads true e = absurd cc
 up start past k request reads false e = sym e

@@ -140,7 +140,7 @@ none_held t (h ∷ hs) e =
     ] refl e
 
 -- the other held parts are apart from the one of the id
-apart_from_held : (t : Tid) (hs : List HeldPart) (g : HeldPart) → AreDistinct hs → PartsAreApart hs → held_part_of t hs ≡ Some g → AllByRecursion (λ h. tid_same h.tid t ≡ false → parts_conflict h.part g.part ≡ false) hs
+pub apart_from_held : (t : Tid) (hs : List HeldPart) (g : HeldPart) → AreDistinct hs → PartsAreApart hs → held_part_of t hs ≡ Some g → AllByRecursion (λ h. tid_same h.tid t ≡ false → parts_conflict h.part g.part ≡ false) hs
 apart_from_held t [] g d a is = tt
 apart_from_held t (h ∷ hs) g d a is =
     elim (tid_same h.tid t) as (λ b. tid_same h.tid t ≡ b → (if b then Some h else held_part_of t hs) ≡ Some g → (tid_same h.tid t ≡ false → parts_conflict h.part g.part ≡ false) × AllByRecursion (λ h. tid_same h.tid t ≡ false → parts_conflict h.part g.part ≡ false) hs) [
@@ -168,7 +168,7 @@ item_below nodes (Compare node start bytes) s = (s.0).0
 item_below nodes (Read node start n) s = (s.0).0
 item_below nodes (Write node start bytes) s = (s.0).0
 
-items_below : (nodes : ℕ) (items : List Item) → AllByRecursion (IsSoundItem nodes) items → AreIn nodes items
+pub items_below : (nodes : ℕ) (items : List Item) → AllByRecursion (IsSoundItem nodes) items → AreIn nodes items
 items_below nodes [] a = tt
 items_below nodes (i ∷ is) a = (item_below nodes i a.0, items_below nodes is a.1)
 
@@ -237,7 +237,7 @@ flat_takes start past e i is holds inside n =
 commits_that : (past : List Entry) (e : Entry) (P : Issued → Type 0) (j : Issued) → committed_by past e ≡ Some j → P j → (i : Issued) → committed_by past e ≡ Some i → P i
 commits_that past e P j is p i is' = let same : j ≡ i = cc in subst P same p
 
-inside_flat : (start : Start) (past : List Entry) (mini : Mini) → Even start past → IsMade start mini → AreIn (length (flat start past)) mini.items
+pub inside_flat : (start : Start) (past : List Entry) (mini : Mini) → Even start past → IsMade start mini → AreIn (length (flat start past)) mini.items
 inside_flat start past mini even made = subst (λ (k : ℕ). AreIn k mini.items) (made.0 ∙ sym even.spaces) (items_below mini.nodes mini.items made.1.inside)
 
 pub idle_commits : (past : List Entry) (k : NodeNo) (eff : Option Request) → IsIdle eff → committed_with past k eff ≡ None
@@ -250,7 +250,7 @@ idle_commits past k (Some Ask.List) none = refl
 idle_commits past k (Some (Ask.Peek at n)) none = refl
 
 -- an entry that adds no vote
-abbrev IsNoVote : Option Record → Type 0
+abbrev pub IsNoVote : Option Record → Type 0
 IsNoVote None = ⊤
 IsNoVote (Some (Voted tid ps part)) = ⊥
 IsNoVote (Some r) = ⊤
@@ -262,7 +262,7 @@ no_vote_added (Some (Executed t part)) old tid quiet = refl
 no_vote_added (Some (Decided t verdict)) old tid quiet = refl
 no_vote_added (Some (Forced t)) old tid quiet = refl
 
-votes_stay : (start : Start) (past : List Entry) (e : Entry) (k : NodeNo) (eff : Option Request) (added : Option Record) → Step start past e k eff added → IsNoVote added
+pub votes_stay : (start : Start) (past : List Entry) (e : Entry) (k : NodeNo) (eff : Option Request) (added : Option Record) → Step start past e k eff added → IsNoVote added
     → (tid : Tid) (m : NodeNo) → has_voted (records_of start (e ∷ past) m) tid ≡ has_voted (records_of start past m) tid
 votes_stay start past e k eff added s quiet tid =
     by_node (λ m. has_voted (records_of start (e ∷ past) m) tid ≡ has_voted (records_of start past m) tid) k
@@ -314,14 +314,14 @@ goes_forced start past e k eff t none s =
 
 -- A decision
 
-held_there : (records : List Record) (t : Tid) → is_held records t ≡ true → (g : HeldPart) × (held_part_of t (held_parts records) ≡ Some g)
+pub held_there : (records : List Record) (t : Tid) → is_held records t ≡ true → (g : HeldPart) × (held_part_of t (held_parts records) ≡ Some g)
 held_there records t is = some (held_part_of t (held_parts records)) refl is
   where
     some : (o : Option HeldPart) → held_part_of t (held_parts records) ≡ o → Rattle.std.proofs.Common.is_some o ≡ true → (g : HeldPart) × (held_part_of t (held_parts records) ≡ Some g)
     some None e h = absurd cc
     some (Some g) e h = (g, e)
 
-decided_comm : (start : Start) (past : List Entry) (k : NodeNo) (t : Tid) (verdict : Bool) → StartsSound start → Kept start past → RecordSound start past k (Decided t verdict) → comm start past t ≡ verdict
+pub decided_comm : (start : Start) (past : List Entry) (k : NodeNo) (t : Tid) (verdict : Bool) → StartsSound start → Kept start past → RecordSound start past k (Decided t verdict) → comm start past t ≡ verdict
 decided_comm start past k t true fit kept sound = voted_comm start past t kept sound
 decided_comm start past k t false fit kept sound = lost_comm start past t fit kept sound
 
@@ -416,7 +416,7 @@ votes_after start past e k t ps part s tid =
     (λ n other. ap (λ (r : List Record). has_voted r tid) (s.elsewhere n other) ∙ sym (ap (λ (b : Bool). (b && tid_same t tid) || has_voted (records_of start past n) tid) other))
 
 -- of other ids the same are committed
-comm_other : (start : Start) (past : List Entry) (e : Entry) (k : NodeNo) (t : Tid) (ps : List NodeNo) (part : List PartItem) → Step start past e k (Some (Ask.Prepare t ps part)) (Some (Voted t ps part))
+pub comm_other : (start : Start) (past : List Entry) (e : Entry) (k : NodeNo) (t : Tid) (ps : List NodeNo) (part : List PartItem) → Step start past e k (Some (Ask.Prepare t ps part)) (Some (Voted t ps part))
     → (n : NodeNo) (h : HeldPart) → PartOf start past n h → tid_same h.tid t ≡ false → comm start (e ∷ past) h.tid ≡ comm start past h.tid
 comm_other start past e k t ps part s n h (inl (mini, is, own, has, several)) other =
     comm_same start past e h.tid mini is (issue_stays start past e h.tid.client h.tid mini s.kept s.keeps is)
@@ -428,10 +428,10 @@ comm_other start past e k t ps part s n h (inl (mini, is, own, has, several)) ot
 comm_other start past e k t ps part s n h (inr old) other = comm_old start (e ∷ past) h.tid s.kept_after old ∙ sym (comm_old start past h.tid s.kept old)
 
 -- whether the vote is the last
-abbrev is_complete : List Entry → NodeNo → Tid → List NodeNo → Bool
+abbrev pub is_complete : List Entry → NodeNo → Tid → List NodeNo → Bool
 is_complete past k t ps = list_all (λ m. node_same m k || has_vote t m past) ps
 
-comm_complete : (start : Start) (past : List Entry) (e : Entry) (k : NodeNo) (t : Tid) (ps : List NodeNo) (part : List PartItem) (mini : Mini) → Step start past e k (Some (Ask.Prepare t ps part)) (Some (Voted t ps part))
+pub comm_complete : (start : Start) (past : List Entry) (e : Entry) (k : NodeNo) (t : Tid) (ps : List NodeNo) (part : List PartItem) (mini : Mini) → Step start past e k (Some (Ask.Prepare t ps part)) (Some (Voted t ps part))
     → mini_of past t ≡ Some mini → ps ≡ participants_of mini → comm start (e ∷ past) t ≡ is_complete past k t ps
 comm_complete start past e k t ps part mini s is all =
     comm_is start (e ∷ past) t mini (issue_stays start past e t.client t mini s.kept s.keeps is)
@@ -444,7 +444,7 @@ comm_complete start past e k t ps part mini s is all =
     whole false b = refl
 
 -- before it the id is not committed
-comm_before : (start : Start) (past : List Entry) (k : NodeNo) (t : Tid) (mini : Mini) → mini_of past t ≡ Some mini → Contains (participants_of mini) k → has_voted (records_of start past k) t ≡ false → comm start past t ≡ false
+pub comm_before : (start : Start) (past : List Entry) (k : NodeNo) (t : Tid) (mini : Mini) → mini_of past t ≡ Some mini → Contains (participants_of mini) k → has_voted (records_of start past k) t ≡ false → comm start past t ≡ false
 comm_before start past k t mini is has unvoted = elim (comm start past t) as (λ b. comm start past t ≡ b → comm start past t ≡ false) [
   | true ↦ λ e.
       let all : AllByRecursion (λ n. has_voted (records_of start past n) t ≡ true) (participants_of mini) = Rattle.mn_world.proofs.Votes.Start.all_true (λ n. has_voted (records_of start past n) t) (participants_of mini) (sym (comm_is start past t mini is) ∙ e) in

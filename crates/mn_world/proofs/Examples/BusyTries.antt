@@ -4,7 +4,7 @@ use Rattle.std.specs.List.{AllByRecursion, flat_map}
 use Rattle.mn_base.specs.declared.answer.Busy.{Busy}
 use Rattle.mn_base.specs.declared.answer.Busy.TheVariants.{Lock, Moved, Forced, Path}
 use Rattle.mn_base.specs.declared.answer.Answer.TheVariants as Gives
-use Rattle.mn_page.specs.Grammar.{entry_bytes}
+use Rattle.byteorder.specs.Endian.{big_bytes}
 use Rattle.mn_page.proofs.Examples.Spelling.{at}
 use Rattle.mn_world.specs.declared.entry.Entry.{Entry}
 use Rattle.mn_world.specs.Answers.{FailsAs, Reached}
@@ -12,7 +12,7 @@ use Rattle.mn_world.specs.Run.{IsLegalBy}
 use Rattle.mn_world.proofs.Examples.TwoNodes.{node, id}
 use Rattle.mn_world.proofs.Examples.Entries.{begin, answered, key}
 use Rattle.mn_world.proofs.Examples.Scans.{entries, m2}
-use Rattle.mn_world.proofs.Examples.Tries.{leaf_bytes, catalog_seen, leaf_seen, inner_seen, child_seen, sees_catalog, inner_spelled, child_spelled, leaf_shown, entry_shown, put, inner, copied_child, Kind, locked, moved, entry_moved, forced, strayed, first_try, later_try, six_after, six_tries, eight_tries, kept_astray}
+use Rattle.mn_world.proofs.Examples.Tries.{catalog_seen, leaf_seen, inner_seen, child_seen, sees_catalog, inner_spelled, child_spelled, leaf_shown, number_shown, put, inner, copied_child, Kind, locked, moved, entry_moved, forced, strayed, first_try, later_try, six_after, six_tries, eight_tries, kept_astray}
 
 -- How each kind fails
 
@@ -21,12 +21,12 @@ locked_fails : (s : ℕ) (before : List Entry)
 locked_fails s before = inl (_, refl, refl)
 
 moved_fails : (found : List ℕ) (s : ℕ) (before : List Entry)
-    → FailsAs 2 put ((moved found).made s ++ before) (Moved (node 1) 21504 leaf_bytes found)
-moved_fails found s before = inl (_, refl, (21504, leaf_bytes, refl, (leaf_seen, (0, omega arith, refl), refl, lit≤ tt, leaf_shown), refl))
+    → FailsAs 2 put ((moved found).made s ++ before) (Moved (node 1) 21504 (big_bytes 8 3) found)
+moved_fails found s before = inl (_, refl, (21504, big_bytes 8 3, refl, (leaf_seen, (0, omega arith, refl), refl, lit≤ tt, leaf_shown), refl))
 
 entry_moved_fails : (found : List ℕ) (s : ℕ) (before : List Entry)
-    → FailsAs 2 put ((entry_moved found).made s ++ before) (Moved (node 0) 128 (entry_bytes m2) found)
-entry_moved_fails found s before = inl (_, refl, (128, entry_bytes m2, refl, (catalog_seen, (1, omega arith, refl), refl, lit≤ tt, entry_shown), refl))
+    → FailsAs 2 put ((entry_moved found).made s ++ before) (Moved (node 0) 128 (big_bytes 8 m2.seq) found)
+entry_moved_fails found s before = inl (_, refl, (128, big_bytes 8 m2.seq, refl, (catalog_seen, (1, omega arith, refl), refl, lit≤ tt, number_shown), refl))
 
 forced_fails : (s : ℕ) (before : List Entry)
     → FailsAs 2 put (forced.made s ++ before) (Forced (id 0 (s + 2)))
@@ -81,7 +81,7 @@ lock_answered = record {
 }
 
 -- the last finds other bytes than its read of the leaf
-moved_answered : IsLegalBy (eight_tries (moved (99 ∷ []))) (answered (Gives.Busy (Moved (node 1) 21504 leaf_bytes (99 ∷ []))))
+moved_answered : IsLegalBy (eight_tries (moved (99 ∷ []))) (answered (Gives.Busy (Moved (node 1) 21504 (big_bytes 8 3) (99 ∷ []))))
 moved_answered = record {
   actor = lit≤ tt;
   node = tt;

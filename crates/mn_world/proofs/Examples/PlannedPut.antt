@@ -1,7 +1,8 @@
 -- A Put in place answered by its plan, of two participants, by a catalog that an earlier operation
 -- read; and lists that don't answer it so.
-use Rattle.std.proofs.Common.{◌≡◌, inl, inr, true, false, List, [], ◌∷◌, ◌++◌, refl, ap, ◌∙◌, arith, lit<, lit≤}
+use Rattle.std.proofs.Common.{◌≡◌, ℕ, inl, inr, true, false, List, [], ◌∷◌, ◌++◌, ◌≤◌, refl, ap, ◌∙◌, arith, lit<, lit≤}
 use Rattle.mn_base.specs.Store.{Head, listing_of}
+use Rattle.mn_base.specs.declared.ids.NodeNo.{NodeNo}
 use Rattle.mn_base.specs.declared.op.Step.TheVariants.{Put}
 use Rattle.mn_base.specs.declared.op.Op.{Op}
 use Rattle.mn_base.specs.declared.op.Op.TheVariants.{Tx, Versions}
@@ -18,7 +19,7 @@ use Rattle.mn_world.specs.declared.entry.What.TheVariants as Did
 use Rattle.mn_world.specs.Calls.{since_begin, Issued}
 use Rattle.mn_world.specs.Places.{catalog_place}
 use Rattle.mn_world.specs.Planned.{IsPlanned}
-use Rattle.mn_world.specs.Plans.{IsLeafWithRoom, put_in_place}
+use Rattle.mn_world.specs.Plans.{IsLeafWithRoom, put_in_place, ShowsPage, ShowsEntry}
 use Rattle.mn_world.specs.Answers.{all_done, IsPlanBy, LastPlanReplies, ShowsAnswer, MeansBy}
 use Rattle.mn_world.specs.Run.{IsLegalBy}
 use Rattle.mn_world.proofs.Plans.PutInPlace.{put_is_planned}
@@ -53,9 +54,6 @@ has_room = record {
   number = lit< tt;
 }
 
-planned : (es : List Entry) → IsPlanned es heads put plan (Values [])
-planned = put_is_planned heads 2 main (key 2) (119 ∷ []) 0 main_entry (at 1 0) left (pair 3 ∷ pair 4 ∷ []) has_room
-
 -- the catalog was read for a listing; then the Put looks at the root and the leaf, and issues its
 -- plan
 abbrev listed : List Entry
@@ -65,6 +63,21 @@ abbrev pub looked : List Entry
 looked =
     called 1 (Ask.Peek 20480 1024) (Say.Peeked (page_bytes left)) ∷ called 0 (Ask.Peek 20480 1024) (Say.Peeked (page_bytes (record root { copied = 0 })))
     ∷ own (Did.Begin 2 put) ∷ listed
+
+leaf_last : ShowsPage looked (at 1 0) left
+leaf_last = inl (record { node = refl; begins = lit≤ tt; ends = lit≤ tt; part = refl }, refl)
+
+entry_last : ShowsEntry looked 0 main_entry
+entry_last = inr ((λ other gives. on_one (ap (λ (n : NodeNo). n.0) gives.0.node)), inr ((λ other gives. behind gives.0.begins), inl (record { node = refl; begins = lit≤ tt; ends = lit≤ tt; part = refl }, refl)))
+  where
+    on_one : ◌≡◌ {A = ℕ} 1 0 → ⊥
+    on_one e = absurd (omega arith)
+
+    behind : 20480 ≤ 64 → ⊥
+    behind e = absurd (omega arith)
+
+planned : IsPlanned looked heads put plan (Values [])
+planned = put_is_planned heads 2 main (key 2) (119 ∷ []) 0 main_entry (at 1 0) left (pair 3 ∷ pair 4 ∷ []) has_room looked leaf_last entry_last
 
 abbrev pub issued : List Entry
 issued = own (Did.Issue (id 0 2) plan) ∷ looked
@@ -82,7 +95,7 @@ abbrev told : List Entry
 told = called 1 (Ask.Decide (id 0 2) true) Say.Decided ∷ told_one
 
 pub plan_is_by : IsPlanBy looked put plan (Values [])
-plan_is_by = (main_entry ∷ [], (seen catalog_place (catalog_of (main_entry ∷ [])), (0, lit< tt, refl), sees_main), planned looked)
+plan_is_by = (main_entry ∷ [], (seen catalog_place (catalog_of (main_entry ∷ [])), (0, lit< tt, refl), sees_main), planned)
 
 replied_by_plan : LastPlanReplies told (since_begin told) put (Values [])
 replied_by_plan = (

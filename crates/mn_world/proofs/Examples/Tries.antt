@@ -1,6 +1,6 @@
 -- Tries of one Put, for worked examples: how a later try may end, and eight tries one after
 -- another. The catalog and the pages stand behind names.
-use Rattle.std.proofs.Common.{◌≡◌, ℕ, ◌+◌, ◌-◌, false, List, [], ◌∷◌, ◌++◌, length, None, refl, lit<, lit≤, subst, sym}
+use Rattle.std.proofs.Common.{◌≡◌, ℕ, ◌+◌, ◌-◌, ◌≤◌, inl, inr, false, List, [], ◌∷◌, ◌++◌, length, None, refl, ap, lit<, lit≤, subst, sym, arith}
 use Rattle.std.specs.List.{flat_map}
 use Rattle.mn_base.specs.declared.op.Step.TheVariants.{Put}
 use Rattle.mn_base.specs.declared.op.Op.{Op}
@@ -21,8 +21,10 @@ use Rattle.mn_page.specs.Grammar.{page_bytes, entry_bytes, IsPage, SpellsPage}
 use Rattle.mn_page.proofs.Examples.Spelling.{at}
 use Rattle.mn_world.specs.declared.entry.Entry.{Entry}
 use Rattle.mn_world.specs.declared.entry.What.TheVariants as Did
-use Rattle.mn_world.specs.Places.{page_place, catalog_place}
-use Rattle.mn_world.specs.Shown.{Seen, SeesCatalog}
+use Rattle.byteorder.specs.Endian.{big_bytes}
+use Rattle.mn_base.specs.declared.ids.NodeNo.{NodeNo}
+use Rattle.mn_world.specs.Places.{page_place, entry_place, catalog_node, catalog_place}
+use Rattle.mn_world.specs.Shown.{Seen, SeesCatalog, shown_in, FirstGives}
 use Rattle.mn_world.proofs.Examples.TwoNodes.{node, id, prepare}
 use Rattle.mn_world.proofs.Examples.Entries.{begin, own, called, read, seen, catalog_of, version, key, pair}
 use Rattle.mn_world.proofs.Examples.Scans.{entries, entry_rules, m2}
@@ -127,10 +129,18 @@ pub child_spelled : SpellsPage child_bytes copied_child
 unfolding child_bytes
 child_spelled = (child_is_page, refl)
 
--- the leaf's bytes, and m2's entry among the catalog's
-pub leaf_shown : bytes_in leaf_bytes 0 (length leaf_bytes) ≡ leaf_bytes
+-- the leaf's number, and m2's entry among the catalog's, with its number
+pub leaf_shown : bytes_in leaf_bytes 0 8 ≡ big_bytes 8 3
 unfolding leaf_bytes
 leaf_shown = refl
+
+pub number_shown : bytes_in catalog_bytes 64 8 ≡ big_bytes 8 m2.seq
+unfolding catalog_bytes
+number_shown = refl
+
+catalog_length_is : length catalog_bytes ≡ 4096
+unfolding catalog_bytes
+catalog_length_is = refl
 
 pub entry_shown : bytes_in catalog_bytes 64 64 ≡ entry_bytes m2
 unfolding catalog_bytes
@@ -142,14 +152,28 @@ abbrev pub put : Op
 put = Tx m2.name (Put (key 7) (119 ∷ []) ∷ [])
 
 abbrev pub plan : Mini
-plan = record { nodes = 2; items = Compare (node 1) 21504 leaf_bytes ∷ Compare (node 0) 128 (entry_bytes m2) ∷ Write (node 1) 21504 next_bytes ∷ [] }
+plan = record { nodes = 2; items = Compare (node 1) 21504 (big_bytes 8 3) ∷ Compare (node 0) 128 (big_bytes 8 m2.seq) ∷ Write (node 1) 21504 next_bytes ∷ [] }
 
 plan_is : plan ≡ put_in_place 2 (key 7) (119 ∷ []) 1 m2 (at 1 1) leaf (pair 3 ∷ pair 7 ∷ [])
-unfolding leaf_bytes next_bytes
+unfolding next_bytes
 plan_is = refl
 
-pub plan_is_planned : (es : List Entry) → IsPlanned es (heads_in entries) put plan (Values [])
-plan_is_planned es = subst (λ (m : Mini). IsPlanned es (heads_in entries) put m (Values [])) (sym plan_is)
+-- the leaf was read, and before it the catalog
+leaf_last : (older : List Seen) → FirstGives (leaf_seen ∷ catalog_seen ∷ older) (page_place (at 1 1)) (big_bytes 8 3) (page_bytes leaf)
+unfolding leaf_bytes
+leaf_last older = inl (record { node = refl; begins = lit≤ tt; ends = lit≤ tt; part = refl }, refl)
+
+entry_last : (older : List Seen) → FirstGives (leaf_seen ∷ catalog_seen ∷ older) (entry_place catalog_node 1) (big_bytes 8 m2.seq) (entry_bytes m2)
+entry_last older = inr ((λ other gives. on_one (ap (λ (n : NodeNo). n.0) gives.0.node)), inl (record { node = refl; begins = lit≤ tt; ends = catalog_long; part = entry_shown }, refl))
+  where
+    on_one : ◌≡◌ {A = ℕ} 1 0 → ⊥
+    on_one e = absurd (omega arith)
+
+    catalog_long : 128 + 64 ≤ 64 + length catalog_bytes
+    catalog_long = let l = catalog_length_is in omega (arith, l)
+
+pub planned_after : (es : List Entry) (older : List Seen) → shown_in es ≡ leaf_seen ∷ catalog_seen ∷ older → IsPlanned es (heads_in entries) put plan (Values [])
+planned_after es older shows = subst (λ (m : Mini). IsPlanned es (heads_in entries) put m (Values [])) (sym plan_is)
     (put_is_planned (heads_in entries) 2 m2.name (key 7) (119 ∷ []) 1 m2 (at 1 1) leaf (pair 3 ∷ pair 7 ∷ []) (record {
       named = refl;
       few = lit< tt;
@@ -164,10 +188,12 @@ plan_is_planned es = subst (λ (m : Mini). IsPlanned es (heads_in entries) put m
       is_value = (lit≤ tt, refl);
       room = lit≤ tt;
       number = lit< tt;
-    }) es)
+    }) es
+    (subst (λ (ss : List Seen). FirstGives ss (page_place (at 1 1)) (big_bytes 8 3) (page_bytes leaf)) (sym shows) (leaf_last older))
+    (subst (λ (ss : List Seen). FirstGives ss (entry_place catalog_node 1) (big_bytes 8 m2.seq) (entry_bytes m2)) (sym shows) (entry_last older)))
 
 pub plan_is_sound : IsSound plan
-unfolding leaf_bytes next_bytes
+unfolding next_bytes
 plan_is_sound = record {
   some = lit≤ tt;
   few = lit≤ tt;

@@ -4,7 +4,7 @@ use Rattle.mn_base.specs.declared.reply.Reply.TheVariants.{Values}
 use Rattle.mn_world.specs.declared.entry.Entry.{Entry}
 use Rattle.mn_world.proofs.Examples.Entries.{AreLegal, begin}
 use Rattle.mn_world.proofs.Examples.Scans.{entries}
-use Rattle.mn_world.proofs.Examples.Tries.{catalog_seen, sees_catalog, put, plan, plan_is_planned, plan_is_sound, locked, forced, first_try, later_try}
+use Rattle.mn_world.proofs.Examples.Tries.{catalog_seen, sees_catalog, put, plan, planned_after, plan_is_sound, locked, forced, first_try, later_try}
 
 abbrev first : List Entry
 first = first_try ++ begin put ∷ []
@@ -25,7 +25,7 @@ legal_first = (
       ),
       record { actor = lit≤ tt; node = tt; step = (tt, tt) },
     ),
-    record { actor = lit≤ tt; node = tt; step = (record { under_way = refl; client = refl; serial = refl; kind = refl; sound = plan_is_sound; after = refl }, (refl, inr (Values [], (entries, (catalog_seen, (0, lit< tt, refl), sees_catalog), plan_is_planned _)))) },
+    record { actor = lit≤ tt; node = tt; step = (record { under_way = refl; client = refl; serial = refl; kind = refl; sound = plan_is_sound; after = refl }, (refl, inr (Values [], (entries, (catalog_seen, (0, lit< tt, refl), sees_catalog), planned_after _ _ refl)))) },
   ),
   record { actor = lit≤ tt; node = tt; step = (record { mini = plan; issued = refl; all = refl; several = lit≤ tt; named = (0, lit< tt, refl); own_part = refl; once = refl; open_still = refl; lower = (λ h. absurd (omega arith), (λ h. absurd (omega arith), tt)) }, tt) },
 )
@@ -54,7 +54,7 @@ legal_second = (
         ),
         record { actor = lit≤ tt; node = tt; step = (record { mini = _; issued = refl; alone = refl; own_part = refl; once = refl; open_still = refl }, tt) },
       ),
-      record { actor = lit≤ tt; node = tt; step = (record { under_way = refl; client = refl; serial = refl; kind = refl; sound = plan_is_sound; after = refl }, (refl, inr (Values [], (entries, (catalog_seen, (1, lit< tt, refl), sees_catalog), plan_is_planned _)))) },
+      record { actor = lit≤ tt; node = tt; step = (record { under_way = refl; client = refl; serial = refl; kind = refl; sound = plan_is_sound; after = refl }, (refl, inr (Values [], (entries, (catalog_seen, (1, lit< tt, refl), sees_catalog), planned_after _ _ refl)))) },
     ),
     record { actor = lit≤ tt; node = tt; step = (record { mini = plan; issued = refl; all = refl; several = lit≤ tt; named = (0, lit< tt, refl); own_part = refl; once = refl; open_still = refl; lower = (λ h. absurd (omega arith), (λ h. absurd (omega arith), tt)) }, tt) },
   ),

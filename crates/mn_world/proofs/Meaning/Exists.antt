@@ -34,7 +34,7 @@ use Rattle.mn_world.proofs.Reading.MakeRun.{runs_follow_protocol}
 use Rattle.mn_world.proofs.Reading.Sees.{seen_in-cons}
 use Rattle.mn_world.proofs.Meaning.Prefixes.{follows_before, older_run}
 use Rattle.mn_world.proofs.Meaning.Kept.{Known}
-use Rattle.mn_world.proofs.Meaning.Legal.{known_run, pairs_refuse_nothing}
+use Rattle.mn_world.proofs.Meaning.Legal.{Opens, known_run, pairs_refuse_nothing}
 use Rattle.mn_world.proofs.Meaning.Positions.{is_own, client_split}
 use Rattle.mn_world.proofs.Meaning.LastPlan.{Lifted, lift}
 use Rattle.mn_world.proofs.Meaning.Between.{none_begun}
@@ -45,7 +45,7 @@ use Rattle.mn_world.proofs.Meaning.Found.{plan_exists, plan_stands}
 
 -- what is known at an older place
 known_before : (start : Start) (store : Store) (past : List Entry) (placed : List Placed)
-    → StartsSound start → Holds (opened_memory start) store → IsRun start past
+    → StartsSound start → Opens start store → IsRun start past
     → IsHistory past placed → (later before : List Entry) → past ≡ later ++ before
     → (ps : List Placed) × Known start store before ps
 known_before start store past placed sound opened run history later before split =
@@ -59,7 +59,7 @@ abbrev NoBegin : ClientNo → Entry → Type 0
 NoBegin c e = (is_by c e ≡ false) ⊎ (begun_in e.what ≡ [])
 
 find_last : (start : Start) (store : Store) (past : List Entry) (placed : List Placed)
-    → StartsSound start → Holds (opened_memory start) store → IsRun start past
+    → StartsSound start → Opens start store → IsRun start past
     → IsHistory past placed → (c : ClientNo) (op : Op) (reply : Reply)
     → (front later : List Entry) (x : Entry) (before : List Entry)
     → past ≡ front ++ (later ++ x ∷ before) → ShowsHere c before x op reply
@@ -111,7 +111,7 @@ lift_part c past newer y older same =
     record { later = l.later; before = l.before; split = l.split; own = append_cancel_right (client_entries c l.later) newer (y ∷ older) parts; list = l.list; by = by }
 
 some_read : (start : Start) (store : Store) (past : List Entry) (placed : List Placed)
-    → StartsSound start → Holds (opened_memory start) store → IsRun start past
+    → StartsSound start → Opens start store → IsRun start past
     → IsHistory past placed → (c : ClientNo) (op : Op) (reply : Reply)
     → SomeReadShows (client_entries c past) (since_begin (client_entries c past)) op reply
     → (place : ℕ) × LastShown c op reply past place
@@ -242,7 +242,7 @@ no_read_of_pairs before seen name low high limit pairs (inl leaf) = leaf
 no_read_of_pairs before seen name low high limit pairs (inr (entries, sees, refused)) = pairs_refuse_nothing (heads_in entries) name low high limit pairs refused
 
 place_exists : (start : Start) (store : Store) (past : List Entry) (placed : List Placed)
-    → StartsSound start → Holds (opened_memory start) store → IsRun start past
+    → StartsSound start → Opens start store → IsRun start past
     → IsHistory past placed → (c : ClientNo) (op : Op) (reply : Reply)
     → ByRead (client_entries c past) (since_begin (client_entries c past)) op reply
     → (place : ℕ) × ReadPlace c past op reply place
@@ -254,7 +254,7 @@ place_exists start store past placed sound opened run history c op reply (inr sc
 -- What each entry puts there
 
 answer_exists : (start : Start) (store : Store) (past : List Entry) (old : List Placed)
-    → StartsSound start → Holds (opened_memory start) store → IsRun start past
+    → StartsSound start → Opens start store → IsRun start past
     → IsHistory past old → (c : ClientNo) (begun : Option Begun) (answer : Answer)
     → under_way (client_entries c past) ≡ begun → IsShownFor (client_entries c past) begun answer
     → (new : List Placed) × AnswerPuts past c begun answer old new
@@ -282,7 +282,7 @@ answer_exists start store past old sound opened run history c (Some begun) (Worn
 answer_exists start store past old sound opened run history c (Some begun) NoMemory now shown = (old, refl)
 
 step_exists : (start : Start) (store : Store) (past : List Entry) (old : List Placed)
-    → StartsSound start → Holds (opened_memory start) store → IsRun start past
+    → StartsSound start → Opens start store → IsRun start past
     → IsHistory past old → (by : Option ClientNo) (what : What)
     → Means past by what → (new : List Placed) × StepPuts past by what old new
 step_exists start store past old sound opened run history None what means = (old, refl)
@@ -295,7 +295,7 @@ step_exists start store past old sound opened run history (Some c) (Restarted ke
 step_exists start store past old sound opened run history (Some c) (Abandoned tid) means = (old, refl)
 
 entry_exists : (start : Start) (store : Store) (past : List Entry) (e : Entry) (old : List Placed)
-    → StartsSound start → Holds (opened_memory start) store
+    → StartsSound start → Opens start store
     → IsRun start (e ∷ past) → IsHistory past old → (o : Option Issued) → committed_by past e ≡ o
     → (new : List Placed) × EntryPuts past e o old new
 entry_exists start store past e old sound opened run history None none = step_exists start store past old sound opened run.0 history e.client e.what run.1.means
@@ -308,7 +308,7 @@ entry_exists start store past e old sound opened run history (Some i) is = by (i
     by false not_read = let plan = plan_exists start past e i run.0 is not_read in (old ++ record { place = length past; past = plan.0 } ∷ [], (plan.0, plan.1, refl))
 
 exists_run : (start : Start) (store : Store) (past : List Entry) → StartsSound start
-    → Holds (opened_memory start) store → IsRun start past
+    → Opens start store → IsRun start past
     → (placed : List Placed) × IsHistory past placed
 exists_run start store [] sound opened run = ([], refl)
 exists_run start store (e ∷ past) sound opened run =
@@ -317,4 +317,4 @@ exists_run start store (e ∷ past) sound opened run =
     (new.0, (old.0, old.1, new.1))
 
 pub history_exists : RunsHaveHistory
-history_exists start store past h = exists_run start store past h.opened.sound h.opened.holds h.run
+history_exists start store past h = exists_run start store past h.opened.sound h.opened h.run

@@ -14,16 +14,17 @@ use Rattle.mn_page.specs.Forest.{page_at, heads_in}
 use Rattle.mn_page.specs.Holds.{Holds, page_serves}
 use Rattle.mn_world.specs.declared.entry.Entry.{Entry}
 use Rattle.mn_world.specs.Calls.{client_entries}
-use Rattle.mn_world.specs.Places.{Place, page_place, catalog_place}
+use Rattle.mn_world.specs.Places.{Place, page_place, catalog_place, IsNumbered}
 use Rattle.mn_world.specs.Planned.{ContinuesCatalog}
 use Rattle.mn_world.specs.Shown.{Seen, SeesCatalog, SeesPage, ShowsCatalog}
 use Rattle.mn_world.specs.History.{Placed}
-use Rattle.mn_world.specs.Protocol.{Start, FollowsProtocol}
+use Rattle.mn_world.specs.Protocol.{Start, start_nodes, FollowsProtocol}
 use Rattle.mn_world.specs.Laws.{StartsSound}
 use Rattle.mn_world.proofs.Bytes.Step.{flat}
 use Rattle.mn_world.proofs.Bytes.Seen.{StandsIn, seen_is_flat}
 use Rattle.mn_world.proofs.Plans.Kept.{serves_kept}
 use Rattle.mn_world.proofs.Plans.HoldsOne.{holds_one}
+use Rattle.mn_world.proofs.Settled.Kept.{KeptAt}
 use Rattle.mn_world.proofs.Meaning.Chain.{Chain, Between, chain_between}
 use Rattle.mn_world.proofs.Meaning.Continued.{continues_after}
 use Rattle.mn_world.proofs.Meaning.Catalogs.{catalog_tells, page_tells}
@@ -64,11 +65,13 @@ number_within (h ∷ hs) name v e = by (bytes_eq h.name name) e (number_within h
     by true f rest = let is : 0 ≡ v = cc in omega arith
     by false f rest = below (number_named hs name) refl f rest
 
--- what is known at every place of a log: the operations so far, with the stores between them
+-- what is known at every place of a log: the operations so far, with the stores between them; and
+-- what the places of pages and entries keep
 pub record Known (start : Start) (store : Store) (past : List Entry) (placed : List Placed) : Type 0 where
   pub sound : StartsSound start
   pub follows : FollowsProtocol start past
   pub chain : Chain (HoldsAt start past) (PlansAt past) (length past) store 0 placed
+  pub contents : (place : Place) → IsNumbered place → place.node.0 < start_nodes start → KeptAt start past place
 
 -- stores that hold at two places: the later one comes from the earlier one by some operations
 pub record Later (one other : Store) : Type 0 where

@@ -1,5 +1,5 @@
 -- The history of a run is legal, and the flat memory holds its store at every place.
-use Rattle.std.proofs.Common.{◌≡◌, ℕ, suc, ◌≤◌, inl, inr, Bool, true, false, List, [], ◌∷◌, ◌++◌, length, Option, Some, None, refl, subst, sym, ap, ◌∙◌, arith, if◌then◌else◌, Contains}
+use Rattle.std.proofs.Common.{◌≡◌, ℕ, suc, ◌<◌, ◌≤◌, inl, inr, Bool, true, false, List, [], ◌∷◌, ◌++◌, length, Option, Some, None, refl, subst, sym, ap, ◌∙◌, arith, if◌then◌else◌, Contains}
 use Rattle.std.specs.Prelude.{MatchBool}
 use Rattle.std.proofs.lemmas.List.{append_assoc}
 use Rattle.mn_base.specs.Store.{Head, Store, head_named, refusal, refusal_at, applied}
@@ -12,7 +12,7 @@ use Rattle.mn_base.specs.declared.op.Op.{Op}
 use Rattle.mn_base.specs.declared.op.Op.TheVariants.{Scan}
 use Rattle.mn_base.specs.declared.answer.Answer.{Answer}
 use Rattle.mn_base.specs.declared.answer.Answer.TheVariants.{Replied, Busy as GaveUp, Down, InDoubt, Full, Worn, NoMemory}
-use Rattle.mn_mini.specs.Mini.{is_read}
+use Rattle.mn_mini.specs.Mini.{is_read, part_of}
 use Rattle.mn_page.specs.Holds.{Holds}
 use Rattle.mn_page.specs.Forest.{heads_in}
 use Rattle.mn_world.specs.declared.entry.Entry.{Entry}
@@ -21,12 +21,14 @@ use Rattle.mn_world.specs.declared.entry.What.TheVariants.{Begin, Issue, Called,
 use Rattle.mn_world.specs.Calls.{Issued, Begun, client_entries, since_begin, under_way}
 use Rattle.mn_world.specs.Shown.{Seen, seen_at, ReadShows}
 use Rattle.mn_world.specs.Answers.{ShowsAnswer, IsShownFor}
-use Rattle.mn_world.specs.Protocol.{Start, FollowsProtocol}
+use Rattle.mn_world.specs.Protocol.{Start, start_nodes, base_at, start_records, FollowsProtocol}
 use Rattle.mn_world.specs.Commits.{committed_by}
 use Rattle.mn_world.specs.Run.{IsRun, Means}
 use Rattle.mn_world.specs.Laws.{StartsSound}
 use Rattle.mn_world.specs.History.{Placed, placed_in, PlanOf, FirstCatalogAt, ReadPlace, has_past, AnswerPuts, StepPuts, EntryPuts, IsHistory}
-use Rattle.mn_world.specs.Opened.{opened_memory}
+use Rattle.mn_world.specs.Places.{Place, IsNumbered}
+use Rattle.mn_world.specs.Planned.{PlanActs}
+use Rattle.mn_world.specs.Opened.{IsOpened}
 use Rattle.mn_world.proofs.Bytes.Step.{flat}
 use Rattle.mn_world.proofs.Bytes.Spaces.{whole_run}
 use Rattle.mn_world.proofs.Reading.MakeRun.{runs_follow_protocol}
@@ -35,7 +37,12 @@ use Rattle.mn_world.proofs.Meaning.Splits.{SameSplit, same_split, shorter_by}
 use Rattle.mn_world.proofs.Meaning.Prefixes.{HoldsAt, PlansAt, older_holds, newest_holds, older_plans, follows_before}
 use Rattle.mn_world.proofs.Meaning.Effects.{flat_none, flat_read, flat_plan, commit_met, committed_made, no_plan_at_read}
 use Rattle.mn_world.proofs.Meaning.Catalogs.{holds_sizes}
-use Rattle.mn_world.proofs.Meaning.Kept.{Known, catalog_continued}
+use Rattle.mn_world.proofs.Meaning.Kept.{Known, some_store, catalog_continued}
+use Rattle.mn_world.proofs.Settled.Kept.{KeptAt, kept_on}
+use Rattle.mn_world.proofs.Settled.Steps.{At, steps}
+use Rattle.mn_world.proofs.Settled.Agree.{agrees}
+use Rattle.mn_world.proofs.Plans.Compares.{all_met}
+use Rattle.mn_world.proofs.Settled.Begins.{NextAt, base_fits, kept_start, plan_next, read_next}
 use Rattle.mn_world.proofs.Meaning.Replies.{Leaves, ShownAt, last_shown_at, read_leaves_store}
 use Rattle.mn_world.proofs.Meaning.Scanned.{scan_leaves}
 
@@ -172,19 +179,31 @@ step_puts start store past e old new known same (Some c) (Stopped request asked)
 step_puts start store past e old new known same (Some c) (Restarted kept) means puts = subst (NextChain start store past e) (sym puts) (quiet start store past e old known same)
 step_puts start store past e old new known same (Some c) (Abandoned tid) means puts = subst (NextChain start store past e) (sym puts) (quiet start store past e old known same)
 
--- what a committed plan does to the store that the flat memory holds there
+-- what a committed plan does where the flat memory holds a store
+pub acts_there : (start : Start) (store : Store) (past : List Entry) (e : Entry) (old : List Placed)
+    → Known start store past old → FollowsProtocol start (e ∷ past) → (i : Issued) (p : Past)
+    → committed_by past e ≡ Some i → PlanOf past i p
+    → (s : Store) (holds : Holds (flat start past) s) → PlanActs (flat start past) s holds p.op i.mini p.reply
+acts_there start store past e old known run i p is plan s holds =
+    let whole = whole_run start past known.sound known.follows in
+    let made = committed_made start past e i whole is in
+    let met = commit_met start past e i known.sound run is in
+    let fits = shorter_by past plan.later plan.entry plan.before plan.split in
+    let on = catalog_continued start store past old known (plan.later ++ plan.entry ∷ []) plan.before [] past (plan.split ∙ sym (append_assoc plan.later (plan.entry ∷ []) plan.before)) refl (omega arith) p.client plan.planned.0 plan.planned.1 s holds in
+    let agreed = agrees start past (plan.later ++ plan.entry ∷ []) plan.before (plan.split ∙ sym (append_assoc plan.later (plan.entry ∷ []) plan.before))
+    (follows_before start past (plan.later ++ plan.entry ∷ []) plan.before (plan.split ∙ sym (append_assoc plan.later (plan.entry ∷ []) plan.before)) known.follows)
+    known.contents p.client i.mini.nodes made.0 i.mini.items made.1.inside (all_met (flat start past) 0 i.mini.items met) plan.planned.2.shown in
+    plan.planned.2.acts (flat start past) s (whole.even.spaces ∙ sym made.0) (holds_sizes (flat start past) s holds) holds on (record { agrees = agreed; met = met })
+
+-- what it does to that store
 pub plan_acts : (start : Start) (store : Store) (past : List Entry) (e : Entry) (old : List Placed)
     → Known start store past old → FollowsProtocol start (e ∷ past) → (i : Issued) (p : Past)
     → committed_by past e ≡ Some i → PlanOf past i p
     → (s : Store) → Holds (flat start past) s
     → (p.reply ≡ (applied s p.op).reply) × Holds (flat start (e ∷ past)) (applied s p.op).store
 plan_acts start store past e old known run i p is plan s holds =
-    let whole = whole_run start past known.sound known.follows in
-    let made = committed_made start past e i whole is in
     let met = commit_met start past e i known.sound run is in
-    let fits = shorter_by past plan.later plan.entry plan.before plan.split in
-    let on = catalog_continued start store past old known (plan.later ++ plan.entry ∷ []) plan.before [] past (plan.split ∙ sym (append_assoc plan.later (plan.entry ∷ []) plan.before)) refl (omega arith) p.client plan.planned.0 plan.planned.1 s holds in
-    let acts = plan.planned.2.acts (flat start past) s (whole.even.spaces ∙ sym made.0) (holds_sizes (flat start past) s holds) holds on (record { met = met }) in
+    let acts = acts_there start store past e old known run i p is plan s holds in
     (acts.replies, subst (λ m. Holds m (applied s p.op).store) (sym (flat_plan start past e i is met)) acts.effect)
 
 -- an entry that commits
@@ -204,16 +223,68 @@ entry_puts start store past e old new known run means (Some i) is puts = by (is_
         (λ s h. let acts = plan_acts start store past e old known run i p is plan s (h [] past refl refl) in (acts.0, newest_holds start past e (applied s p.op).store acts.1))
         ([], e, past, refl, refl, (i, is, not_read)) store 0 old (omega arith) known.chain)
 
+-- Contents
+
+-- what an entry commits writes whole places with next numbers
+entry_next : (start : Start) (store : Store) (past : List Entry) (e : Entry) (old new : List Placed)
+    → Known start store past old → FollowsProtocol start (e ∷ past)
+    → (o : Option Issued) → committed_by past e ≡ o → EntryPuts past e o old new → (place : Place) → IsNumbered place
+    → (i : Issued) → o ≡ Some i → NextAt (flat start past) place (part_of i.mini place.node)
+entry_next start store past e old new known run None none puts place numbered i is = absurd cc
+entry_next start store past e old new known run (Some j) at puts place numbered i is = subst (λ (x : Issued). NextAt (flat start past) place (part_of x.mini place.node)) same (by (is_read j.mini.items) refl puts)
+  where
+    same : j ≡ i
+    same = cc
+
+    by : (b : Bool) → is_read j.mini.items ≡ b
+        → MatchBool b (new ≡ old) ((p : Past) × PlanOf past j p × (new ≡ old ++ record { place = length past; past = p } ∷ [])) → NextAt (flat start past) place (part_of j.mini place.node)
+    by true read same = read_next (flat start past) place j.mini.nodes j.mini.items read
+    by false not_read (p, plan, same) =
+        let s = some_store start store past old known [] past refl in
+        let acts = acts_there start store past e old known run j p at plan s.0 s.1 in
+        plan_next (flat start past) place numbered j.mini acts.wholes acts.numbers
+
+-- the records are opened with the store
+abbrev pub Opens : Start → Store → Type 0
+Opens start store = IsOpened (start_nodes start) (base_at start) (start_records start) store
+
+-- an entry keeps what places keep of contents
+contents_on : (start : Start) (store : Store) (past : List Entry) (e : Entry) (old new : List Placed)
+    → Known start store past old → Opens start store → FollowsProtocol start (e ∷ past) → EntryPuts past e (committed_by past e) old new
+    → (place : Place) → IsNumbered place → place.node.0 < start_nodes start → KeptAt start (e ∷ past) place
+contents_on start store past e old new known opened run puts place numbered low =
+    let kept = known.contents place numbered low in
+    let at : At start past e place = record {
+      whole = whole_run start past known.sound known.follows;
+      after = whole_run start (e ∷ past) known.sound run;
+      keeps = run.1;
+      fits = base_fits start store place opened.holds numbered low;
+      greater = kept.greater;
+      next = λ i is. entry_next start store past e old new known run (committed_by past e) refl puts place numbered i is;
+    } in
+    let s = steps start past e place at known.sound run in
+    kept_on start past e place kept s.1 s.0 s.2
+
 -- at every place of a run
 pub known_run : (start : Start) (store : Store) (past : List Entry) (placed : List Placed)
-    → StartsSound start → Holds (opened_memory start) store → IsRun start past
+    → StartsSound start → Opens start store → IsRun start past
     → IsHistory past placed → Known start store past placed
-known_run start store [] placed sound opened run none = record { sound = sound; follows = tt; chain = subst (Chain (HoldsAt start []) (PlansAt []) 0 store 0) (sym none) (λ m lo hi later before split is. first later before split) }
+known_run start store [] placed sound opened run none = record {
+  sound = sound;
+  follows = tt;
+  chain = subst (Chain (HoldsAt start []) (PlansAt []) 0 store 0) (sym none) (λ m lo hi later before split is. first later before split);
+  contents = λ place numbered low. kept_start start store place opened.holds opened.greater numbered low;
+}
   where
     first : (later before : List Entry) → [] ≡ later ++ before → Holds (flat start before) store
-    first [] before split = subst (λ (b : List Entry). Holds (flat start b) store) split opened
+    first [] before split = subst (λ (b : List Entry). Holds (flat start b) store) split opened.holds
     first (x ∷ later) before split = absurd cc
 known_run start store (e ∷ past) placed sound opened run (old, history, puts) =
     let known = known_run start store past old sound opened run.0 history in
     let follows = runs_follow_protocol start (e ∷ past) run in
-    record { sound = sound; follows = follows; chain = entry_puts start store past e old placed known follows run.1.means (committed_by past e) refl puts }
+    record {
+      sound = sound;
+      follows = follows;
+      chain = entry_puts start store past e old placed known follows run.1.means (committed_by past e) refl puts;
+      contents = contents_on start store past e old placed known opened follows puts;
+    }

@@ -31,7 +31,7 @@ use Rattle.mn_world.proofs.Reading.MakeRun.{runs_follow_protocol}
 use Rattle.mn_world.proofs.Reading.Sees.{seen_in-cons}
 use Rattle.mn_world.proofs.Meaning.Kept.{Known, some_store}
 use Rattle.mn_world.proofs.Meaning.Scanned.{SameOldest, oldest_one}
-use Rattle.mn_world.proofs.Meaning.Legal.{known_run, plan_acts}
+use Rattle.mn_world.proofs.Meaning.Legal.{Opens, known_run, plan_acts}
 use Rattle.mn_world.proofs.Meaning.Positions.{inner_split, client_split, ordered}
 use Rattle.mn_world.proofs.Meaning.Origins.{begun_as}
 use Rattle.mn_world.proofs.Meaning.Stands.{one_operation}
@@ -158,7 +158,7 @@ entry_one start store past e old one other known run (Some i) is p q = by (is_re
         same ∙ (ap (λ (x : Past). old ++ record { place = length past; past = x } ∷ []) (plan_one start store past e old known run i is not_read p q plan plan') ∙ sym same')
 
 one_run : (start : Start) (store : Store) (past : List Entry) (one other : List Placed)
-    → StartsSound start → Holds (opened_memory start) store → IsRun start past
+    → StartsSound start → Opens start store → IsRun start past
     → IsHistory past one → IsHistory past other → one ≡ other
 one_run start store [] one other sound opened run p q = p ∙ sym q
 one_run start store (e ∷ past) one other sound opened run (old, history, puts) (old', history', puts') =
@@ -167,4 +167,4 @@ one_run start store (e ∷ past) one other sound opened run (old, history, puts)
     (subst (λ (l : List Placed). EntryPuts past e (committed_by past e) l other) same puts')
 
 pub history_is_one : HistoryIsOne
-history_is_one start store past one other h k = one_run start store past one other h.opened.opened.sound h.opened.opened.holds h.opened.run h.history k.history
+history_is_one start store past one other h k = one_run start store past one other h.opened.opened.sound h.opened.opened h.opened.run h.history k.history

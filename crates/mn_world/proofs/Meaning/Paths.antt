@@ -306,7 +306,7 @@ path_by_other start store past place e c number addr seq h stands answers = at_l
         some_holds : (s : Store) × Holds (flat start front.base) s
         some_holds =
             let history = history_exists start store past h in
-            let known = known_run start store past history.0 h.opened.sound h.opened.holds h.run history.1 in
+            let known = known_run start store past history.0 h.opened.sound h.opened h.run history.1 in
             some_store start store past history.0 known ((t.later ++ (t.answer ∷ i.later)) ++ (x ∷ front.span)) front.base
             (there ∙ (ap (λ (es : List Entry). (t.later ++ (t.answer ∷ i.later)) ++ x ∷ es) front.split ∙ sym (append_assoc (t.later ++ (t.answer ∷ i.later)) (x ∷ front.span) front.base)))
 

@@ -36,7 +36,7 @@ use Rattle.mn_world.proofs.Reading.MakeRun.{runs_follow_protocol}
 use Rattle.mn_world.proofs.Meaning.Splits.{SameSplit, same_split, shorter_by}
 use Rattle.mn_world.proofs.Meaning.Prefixes.{older_run}
 use Rattle.mn_world.proofs.Meaning.Kept.{Known, some_store}
-use Rattle.mn_world.proofs.Meaning.Legal.{known_run, plan_acts}
+use Rattle.mn_world.proofs.Meaning.Legal.{Opens, known_run, plan_acts}
 use Rattle.mn_world.proofs.Meaning.Clients.{Allowed, same_op, serial_of, issues_grow}
 use Rattle.mn_world.proofs.Meaning.Positions.{IssueAt, AnswerAt, allowed_at, older_own, answered_op, answered_once, issue_before_answer, behind_issue, ordered}
 use Rattle.mn_world.proofs.Meaning.Origins.{PlanAt, plan_more, Origin, by_plan, by_answer, Puts, nothing_new, read_new, plan_new, puts_of, origins, issue_of, begun_as}
@@ -235,7 +235,7 @@ same_operation start past c number answer e op op' i x run now =
 
 -- the reply of a committed plan is the one that its operation was answered with
 plan_reply : (start : Start) (store : Store) (past : List Entry) (e : Entry) (old : List Placed)
-    → StartsSound start → Holds (opened_memory start) store
+    → StartsSound start → Opens start store
     → IsRun start (e ∷ past) → IsHistory past old
     → (place : ℕ) (q : Past) (a : PlanAt past place q) (reply : Reply)
     → AnswerAt (e ∷ past) q.client q.number (Replied reply) → q.reply ≡ reply
@@ -257,7 +257,7 @@ plan_reply start store past e old sound opened run history place q a reply answe
 
 -- the operation that stands there already has the reply
 old_reply : (start : Start) (store : Store) (past : List Entry) (e : Entry) (old : List Placed)
-    → StartsSound start → Holds (opened_memory start) store
+    → StartsSound start → Opens start store
     → IsRun start (e ∷ past) → IsHistory past old → (q : Placed) (reply : Reply)
     → (answer : AnswerAt (e ∷ past) q.past.client q.past.number (Replied reply))
     → length answer.at.before ≡ length past → Origin past q → q.past.reply ≡ reply
@@ -279,7 +279,7 @@ record Newest (past : List Entry) (e : Entry) (c : ClientNo) (number : ℕ) (ans
   at : AnswerAt (e ∷ past) c number answer
   newest : length at.at.before ≡ length past
 
-replied_now : (start : Start) (store : Store) (past : List Entry) (e : Entry) (old new : List Placed) → StartsSound start → Holds (opened_memory start) store → IsRun start (e ∷ past) → IsHistory past old → (c : ClientNo) (number : ℕ) (op : Op) (reply : Reply)
+replied_now : (start : Start) (store : Store) (past : List Entry) (e : Entry) (old new : List Placed) → StartsSound start → Opens start store → IsRun start (e ∷ past) → IsHistory past old → (c : ClientNo) (number : ℕ) (op : Op) (reply : Reply)
     → Newest past e c number (Replied reply)
     → AnswerPuts past c (Some (record { number = number; op = op })) (Replied reply) old new
     → StandsReplied c number reply new
@@ -332,6 +332,6 @@ replied_stands start store past placed place e c number reply h (later, before, 
     let step : StepPuts before e.client e.what older.history.0 older.older = step_of before e older.history.0 older.older (committed_by before e) (answer_commits before e.node e.what number (Replied reply) answers.1) older.history.2 in
     let puts : AnswerPuts before c (under_way (client_entries c before)) (Replied reply) older.history.0 older.older =
     subst (λ (w : What). StepPuts before (Some c) w older.history.0 older.older) answers.1 (subst (λ (o : Option ClientNo). StepPuts before o e.what older.history.0 older.older) answers.0 step) in
-    let stands = replied_now start store before e older.history.0 older.older h.opened.opened.sound h.opened.opened.holds here older.history.1 c number op.0 reply answer
+    let stands = replied_now start store before e older.history.0 older.older h.opened.opened.sound h.opened.opened here older.history.1 c number op.0 reply answer
     (subst (λ (o : Option Begun). AnswerPuts before c o (Replied reply) older.history.0 older.older) op.1 puts) in
     (stands.past, older.stays stands.past stands.there, stands.client, stands.same, stands.replied)

@@ -9,19 +9,23 @@ use Rattle.mn_base.proofs.Frozen.{frozen_stays}
 use Rattle.mn_page.specs.Holds.{Holds}
 use Rattle.mn_world.specs.declared.entry.Entry.{Entry}
 use Rattle.mn_world.specs.Protocol.{Start}
-use Rattle.mn_world.specs.History.{Placed, pasts_of}
+use Rattle.mn_world.specs.History.{Placed, pasts_of, IsHistory}
 use Rattle.mn_world.specs.Meaning.{HistoryRun, placed_before, store_at, HoldsThroughout, StaysOpened, EndsOpened, FrozenNeverChanges}
 use Rattle.mn_world.proofs.Bytes.Spaces.{memory_is_flat}
 use Rattle.mn_world.proofs.Votes.Records.{records_stay_sound}
 use Rattle.mn_world.proofs.Meaning.Chain.{Chain, chain_legal, chain_end}
 use Rattle.mn_world.proofs.Meaning.Splits.{shorter}
-use Rattle.mn_world.proofs.Meaning.Prefixes.{HoldsAt, PlansAt, follows_before}
+use Rattle.mn_world.proofs.Meaning.Prefixes.{HoldsAt, PlansAt, follows_before, older_run}
 use Rattle.mn_world.proofs.Meaning.Kept.{Known, Later, stores_go_on}
 use Rattle.mn_world.proofs.Meaning.Legal.{known_run}
+use Rattle.mn_world.proofs.Meaning.Stands.{older_history}
+use Rattle.mn_world.proofs.Settled.Law.{held_are_greater}
+use Rattle.mn_world.proofs.Reading.MakeRun.{runs_follow_protocol}
+use Rattle.mn_world.specs.Run.{IsRun}
 
 pub known_of : (start : Start) (store : Store) (past : List Entry) (placed : List Placed)
     → HistoryRun start store past placed → Known start store past placed
-known_of start store past placed h = known_run start store past placed h.opened.opened.sound h.opened.opened.holds h.opened.run h.history
+known_of start store past placed h = known_run start store past placed h.opened.opened.sound h.opened.opened h.opened.run h.history
 
 -- it is legal from the opened store
 abbrev HistoryIsLegal : Type 0
@@ -65,8 +69,11 @@ pub stays_opened : StaysOpened
 stays_opened start store past later before placed h split =
     let known = known_of start store past placed h in
     let follows = follows_before start past later before split known.follows in
+    let run : IsRun start (later ++ before) = subst (IsRun start) split h.opened.run in
+    let older = older_history start later before placed (runs_follow_protocol start (later ++ before) run) (subst (λ (l : List Entry). IsHistory l placed) split h.history) in
     record {
       sound = records_stay_sound start before known.sound follows;
+      greater = held_are_greater start store before older.older (known_run start store before older.older h.opened.opened.sound h.opened.opened (older_run start later before run) older.history);
       holds = subst (λ m. Holds m (store_at store placed (length before))) (sym (memory_is_flat start before known.sound follows)) (holds_throughout start store past later before placed h split);
     }
 
@@ -75,6 +82,7 @@ ends_opened start store past placed h =
     let known = known_of start store past placed h in
     record {
       sound = records_stay_sound start past known.sound known.follows;
+      greater = held_are_greater start store past placed known;
       holds = subst (λ m. Holds m (store_after store (pasts_of placed))) (sym (memory_is_flat start past known.sound known.follows))
           (chain_end (HoldsAt start past) (PlansAt past) (length past) store 0 placed (omega arith) known.chain [] past refl refl);
     }

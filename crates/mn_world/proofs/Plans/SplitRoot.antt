@@ -33,15 +33,15 @@ use Rattle.mn_page.proofs.Alike.{re_paired, all-set}
 use Rattle.mn_page.proofs.Spelled.{length-padded, page_length, entry_length, entry_spelled_once, big_bytes-inj}
 use Rattle.mn_page.proofs.Split.{Split, CanSplit, split_forest, with_root, with_left, new_root, left_page, right_page, split_is_forest, CutPairs, shows_split, old_serves, old_covers, lt_nil}
 use Rattle.mn_world.specs.declared.entry.Entry.{Entry}
-use Rattle.mn_world.specs.Places.{catalog_node, Place, page_place, entry_place, count_place}
-use Rattle.mn_world.specs.Planned.{write_places, IsCompared, HasNextNumber, WritesPages, ComparesHold, ContinuesCatalog, PlanActs, place_rank, IsWholePlace, ComeOnce}
-use Rattle.mn_world.specs.Plans.{write_page, slot_at, left_half, right_half, parent_of_halves, HasSplit, split_items, SplitIsPlanned}
+use Rattle.mn_world.specs.Places.{catalog_node, Place, page_place, entry_place, count_place, front_place}
+use Rattle.mn_world.specs.Planned.{compare_places, write_places, IsCompared, IsComparedFront, HasNextNumber, WritesPages, ComparesHold, ContinuesCatalog, PlanActs, place_rank, IsWholePlace, ComeOnce}
+use Rattle.mn_world.specs.Plans.{write_page, slot_at, left_half, right_half, parent_of_halves, HasSplit, split_items, ShowsPage, ShowsEntry, SplitIsPlanned}
 use Rattle.mn_world.proofs.Plans.Pieces.{bytes_in-skip, bytes_in-within, bytes_in-padded}
 use Rattle.mn_world.proofs.Plans.Spaces.{memory_by_pages, catalog_bytes, page_there, entry_read, node_0, memory_length, space_in-memory_by_pages, front_length, catalog_length, AreSlots, node_slots, text_length, get_in-index}
 use Rattle.mn_world.proofs.Plans.Laying.{HasSlots, laid_is, forest_laid, page_over, page_new, count_over}
 use Rattle.mn_world.proofs.Plans.Sizes.{index-set_in, index-add_in, sizes_of, sizes-set_in, sizes-add_in, index_below, index-set-all}
-use Rattle.mn_world.proofs.Plans.Compares.{compares_met, still_named, page_rank, entry_rank, element_at}
-use Rattle.mn_world.proofs.Plans.PutInPlace.{put_store, put_numbers, place_same, named_not}
+use Rattle.mn_world.proofs.Plans.Compares.{compares_met, fronts_compared, still_named, page_rank, entry_rank, element_at}
+use Rattle.mn_world.proofs.Plans.PutInPlace.{put_store, put_numbers, place_same, named_not, front_page, front_entry, met_page, met_entry, shows_page, shows_entry, shows_count}
 use Rattle.mn_page.proofs.Counted.{counted, forest, listed, shows, IsCounted, ListsStore, forest_heads, leaf_pairs_are}
 
 -- A node's count
@@ -358,9 +358,7 @@ by_rank n m a b x y e f low = or_left (nat_lt (place_rank a) (place_rank b)) _ (
 -- The plan
 
 abbrev compared_places : ℕ → CatEntry → Page → NodeNo → ℕ → List Place
-compared_places v e p n count =
-    record { node = e.root.node; start = 20480 + 1024 * e.root.slot; length = length (page_bytes p) } ∷ (record { node = node_0; start = 64 + 64 * v; length = length (entry_bytes e) }
-    ∷ (record { node = n; start = 16; length = length (big_bytes 8 count) } ∷ []))
+compared_places v e p n count = page_place e.root ∷ (entry_place catalog_node v ∷ (count_place n ∷ []))
 
 split_compares : (f : Forest) (store : Store) (name key value : List ℕ) (v nodes : ℕ) (e : CatEntry) (p : Page) (pairs : List Pair) (n : NodeNo) (count : ℕ) (lows : List Pair) (first : Pair) (more : List Pair)
     → ListsStore f store → SplitFacts f store name v e p pairs n count lows first more → length (page_bytes p) ≡ 1024 → length (entry_bytes e) ≡ 64 → (place : Place)
@@ -371,13 +369,13 @@ split_compares f store name key value v nodes e p pairs n count lows first more 
     s_can : CanSplit (split_of f e p n count lows first more) v e (entry_head e)
     s_can = facts.can
 
-    first_is : ◌≡◌ {A = Place} (record { node = e.root.node; start = 20480 + 1024 * e.root.slot; length = length (page_bytes p) }) (page_place e.root)
-    first_is = place_same e.root.node (20480 + 1024 * e.root.slot) (length (page_bytes p)) 1024 lp
+    first_is : ◌≡◌ {A = Place} (page_place e.root) (page_place e.root)
+    first_is = refl
 
-    second_is : ◌≡◌ {A = Place} (record { node = node_0; start = 64 + 64 * v; length = length (entry_bytes e) }) (entry_place catalog_node v)
-    second_is = place_same node_0 (64 + 64 * v) (length (entry_bytes e)) 64 le
+    second_is : ◌≡◌ {A = Place} (entry_place catalog_node v) (entry_place catalog_node v)
+    second_is = refl
 
-    third_is : ◌≡◌ {A = Place} (record { node = n; start = 16; length = length (big_bytes 8 count) }) (count_place n)
+    third_is : ◌≡◌ {A = Place} (count_place n) (count_place n)
     third_is = refl
 
     root_is : ◌≡◌ {A = Place} (record { node = e.root.node; start = 20480 + 1024 * e.root.slot; length = length (page_bytes (new_root (split_of f e p n count lows first more))) }) (page_place e.root)
@@ -475,7 +473,7 @@ split_pages f v nodes e p n count lows first more can count_is lp =
       new = record { addr = slot_at n count; page = left_page (split_of f e p n count lows first more) } ∷ record { addr = slot_at n (count + 1); page = right_page (split_of f e p n count lows first more) } ∷ [];
       others = count_place n ∷ [];
       written = four_same root_is left_is right_is;
-      as_compared = inl (sym (place_same e.root.node (20480 + 1024 * e.root.slot) (length (page_bytes p)) 1024 lp), tt);
+      as_compared = inl (sym (front_page e.root p), tt);
       free = (none_there _ (λ x. no_page f n count x (omega arith)), (none_there _ (λ x. no_page f n (count + 1) x (omega arith)), tt));
       items = ((can.left_spelled, (4, omega arith, refl)), ((can.right_spelled, (5, omega arith, refl)), tt));
       in_order = ((lt_nil first.key, tt), (tt, tt));
@@ -524,18 +522,18 @@ split_once f v nodes e p n count lows first more can count_is =
     four_same p q r = cc
 
 split_acts : (kept : List Head) (nodes : ℕ) (name key value : List ℕ) (v : ℕ) (e : CatEntry) (p : Page) (pairs : List Pair) (n : NodeNo) (count : ℕ) (lows : List Pair) (first : Pair) (more : List Pair)
-    → HasSplit kept nodes name key value v e p pairs n count lows first more → (es : List Entry) (memory : List (List ℕ)) (store : Store) → length memory ≡ nodes → (holds : Holds memory store) → ContinuesCatalog kept (heads_of store)
+    → HasSplit kept nodes name key value v e p pairs n count lows first more → (es : List Entry) → ShowsPage es e.root p → ShowsEntry es v e → (memory : List (List ℕ)) (store : Store) → length memory ≡ nodes → AllByRecursion (λ space. length space ≡ 4214784) memory → (holds : Holds memory store) → ContinuesCatalog kept (heads_of store)
     → ComparesHold es memory (split_items v e p n count lows first more)
     → PlanActs memory store holds (Tx name (Put key value ∷ [])) (record { nodes = nodes; items = split_items v e p n count lows first more }) (Values [])
-split_acts kept nodes name key value v e p pairs n count lows first more r es memory store many holds on hold =
+split_acts kept nodes name key value v e p pairs n count lows first more r es page_shown entry_shown memory store many sizes holds on hold =
     let sound = counted holds.forest holds.sound in
     let shown = listed holds.forest store holds.shown in
     let is_spelled : memory ≡ memory_by_pages holds.forest = holds.spelled ∙ laid_is holds.forest in
     let lp : length (page_bytes p) ≡ 1024 = page_length p r.page in
     let le : length (entry_bytes e) ≡ 64 = entry_length e r.entry in
     let mets = compares_met es memory (split_items v e p n count lows first more) hold in
-    let page : bytes_in (space_in memory e.root.node) (20480 + 1024 * e.root.slot) 1024 ≡ page_bytes p = ap (bytes_in (space_in memory e.root.node) (20480 + 1024 * e.root.slot)) (sym lp) ∙ mets.0 in
-    let entry : bytes_in (space_in memory node_0) (64 + 64 * v) 64 ≡ entry_bytes e = ap (bytes_in (space_in memory node_0) (64 + 64 * v)) (sym le) ∙ (mets.1).0 in
+    let page : bytes_in (space_in memory e.root.node) (20480 + 1024 * e.root.slot) 1024 ≡ page_bytes p = met_page es memory e.root p sizes mets.0 hold.agrees.0 page_shown in
+    let entry : bytes_in (space_in memory node_0) (64 + 64 * v) 64 ≡ entry_bytes e = met_entry es memory v e r.few (hold.agrees.1).0 entry_shown in
     let count_there : bytes_in (space_in memory n) 16 8 ≡ big_bytes 8 count = ((mets.1).1).0 in
     let nodes_are : nodes ≡ length holds.forest.pages = sym many ∙ (ap (λ (m : List (List ℕ)). length m) is_spelled ∙ memory_length holds.forest) in
     let facts = split_facts kept nodes name key value v e p pairs n count lows first more r holds.forest store sound shown nodes_are on
@@ -556,10 +554,12 @@ split_acts kept nodes name key value v e p pairs n count lows first more r es me
             shown = shows (split_forest (split_of holds.forest e p n count lows first more)) (slice_set store v (re_paired facts.named.version (lows ++ first ∷ more))) (shows_split (split_of holds.forest e p n count lows first more) v e (entry_head e) can store facts.named.version facts.cut);
           });
       replies = stored.1;
-      compares = λ w is place. subst
-          (λ k. Contains (compared_places v e p n count) place ↔ IsCompared holds.forest store k (Tx name (Put key value ∷ [])) (record { nodes = nodes; items = split_items v e p n count lows first more }) place)
+      compares = λ w is range. subst
+          (λ k. Contains (compare_places (record { nodes = nodes; items = split_items v e p n count lows first more })) range ↔ IsComparedFront holds.forest store k (Tx name (Put key value ∷ [])) (record { nodes = nodes; items = split_items v e p n count lows first more }) range)
           (same_some v w (sym (still_named kept (heads_of store) name v on r.named) ∙ is))
-          (split_compares holds.forest store name key value v nodes e p pairs n count lows first more shown facts lp le place);
+          (subst (λ (l : List Place). Contains l range ↔ IsComparedFront holds.forest store v (Tx name (Put key value ∷ [])) (record { nodes = nodes; items = split_items v e p n count lows first more }) range) (sym (three_same (front_page e.root p) (front_entry v e)))
+          (fronts_compared (compared_places v e p n count) (IsCompared holds.forest store v (Tx name (Put key value ∷ [])) (record { nodes = nodes; items = split_items v e p n count lows first more }))
+          (λ place. split_compares holds.forest store name key value v nodes e p pairs n count lows first more shown facts lp le place) range));
       numbers = (
         tt,
         (
@@ -595,9 +595,13 @@ split_acts kept nodes name key value v e p pairs n count lows first more r es me
     same_some : (a b : ℕ) → Some a ≡ Some b → a ≡ b
     same_some a b e = cc
 
+    three_same : {a b x y : Place} → a ≡ x → b ≡ y → ◌≡◌ {A = List Place} (a ∷ b ∷ front_place (count_place n) ∷ []) (x ∷ y ∷ front_place (count_place n) ∷ [])
+    three_same p q = cc
+
 pub split_is_planned : SplitIsPlanned
-split_is_planned kept nodes name key value v e p pairs n count lows first more r es = record {
-  acts = λ memory store many sizes holds on hold. split_acts kept nodes name key value v e p pairs n count lows first more r es memory store many holds on hold;
+split_is_planned kept nodes name key value v e p pairs n count lows first more r es page_shown entry_shown = record {
+  shown = (shows_page es e.root p page_shown, (shows_entry es v e r.few entry_shown, (shows_count es n count, (tt, (tt, (tt, (tt, tt)))))));
+  acts = λ memory store many sizes holds on hold. split_acts kept nodes name key value v e p pairs n count lows first more r es page_shown entry_shown memory store many sizes holds on hold;
   order = and_from _ _ (by_rank e.root.node node_0 (20480 + 1024 * e.root.slot) (64 + 64 * v) 0 1 (page_rank e.root.slot) (entry_rank v r.few) refl)
       (and_from _ _ (by_rank node_0 n (64 + 64 * v) 16 1 2 (entry_rank v r.few) refl refl)
       (and_from true _ refl

@@ -11,15 +11,17 @@ use Rattle.mn_page.specs.Forest.{Forest, page_at}
 use Rattle.mn_page.proofs.Spelled.{page_length, entry_length, big_bytes-inj}
 use Rattle.mn_page.proofs.Counted.{counted, IsCounted}
 use Rattle.byteorder.specs.Endian.{big_bytes}
-use Rattle.mn_world.specs.Planned.{HasNextNumber}
+use Rattle.mn_world.specs.Places.{entry_place, catalog_node}
+use Rattle.mn_world.specs.Planned.{HasNextNumber, OnNumber, AgreesWith}
 use Rattle.mn_world.specs.Growth.{ComparesTell, NumbersGoOn, count_in, compare_unused, write_entry}
 use Rattle.mn_world.specs.Plans.{compare_page, compare_entry, compare_count}
 use Rattle.mn_world.proofs.Plans.Laying.{laid_is}
 use Rattle.mn_world.proofs.Plans.Spaces.{memory_by_pages, page_there, page_read, page_node, entry_there, entry_read, node_0, get_in-index}
 use Rattle.mn_world.proofs.Plans.Entries.{none_there, unused_read}
-use Rattle.mn_world.proofs.Plans.Compares.{IsMet, compares_met}
+use Rattle.mn_world.proofs.Plans.Compares.{IsMet, compares_met, compared_place}
 use Rattle.mn_world.proofs.Plans.Sizes.{index_below}
-use Rattle.mn_world.proofs.Plans.PutInPlace.{put_numbers}
+use Rattle.mn_world.proofs.Plans.PutInPlace.{put_numbers, met_page, met_entry}
+use Rattle.mn_world.proofs.Meaning.Catalogs.{holds_sizes}
 use Rattle.mn_world.proofs.Plans.SplitRoot.{count_read, free_read, new_number}
 
 -- what holds of each element holds of one that is there
@@ -32,17 +34,18 @@ all_there P (y ∷ xs) x all (suc k, in', is) = all_there P xs x all.1 (k, omega
 
 pub compares_tell : ComparesTell
 compares_tell es memory store holds items hold = record {
-  pages = λ addr p there in' spelled.
+  pages = λ addr p there shown in' spelled.
       page_there holds.forest sound addr p in' spelled
       (ap (λ (m : List (List ℕ)). bytes_in (space_in m addr.node) (20480 + 1024 * addr.slot) 1024) (sym is_spelled)
-      ∙ (ap (bytes_in (space_in memory addr.node) (20480 + 1024 * addr.slot)) (sym (page_length p spelled)) ∙ all_there (IsMet memory) items (compare_page addr p) mets there));
-  entries = λ v e there few spelled.
+      ∙ met_page es memory addr p sizes (all_there (IsMet memory) items (compare_page addr p) mets there) (all_there (OnNumber (AgreesWith es memory)) items (compare_page addr p) hold.agrees there) shown);
+  entries = λ v e there shown few spelled.
       entry_there holds.forest sound v e few spelled
       (ap (λ (m : List (List ℕ)). bytes_in (space_in m node_0) (64 + 64 * v) 64) (sym is_spelled)
-      ∙ (ap (bytes_in (space_in memory node_0) (64 + 64 * v)) (sym (entry_length e spelled)) ∙ all_there (IsMet memory) items (compare_entry v e) mets there));
-  unused = λ v there few.
+      ∙ met_entry es memory v e few (all_there (OnNumber (AgreesWith es memory)) items (compare_entry v e) hold.agrees there) shown);
+  unused = λ v there shown few.
       none_there holds.forest sound v few
-      (ap (λ (m : List (List ℕ)). bytes_in (space_in m node_0) (64 + 64 * v) 64) (sym is_spelled) ∙ all_there (IsMet memory) items (compare_unused v) mets there);
+      (ap (λ (m : List (List ℕ)). bytes_in (space_in m node_0) (64 + 64 * v) 64) (sym is_spelled)
+      ∙ compared_place es memory (entry_place catalog_node v) (replicate 8 0) (replicate 64 0) (inr (v, few, refl)) refl (all_there (OnNumber (AgreesWith es memory)) items (compare_unused v) hold.agrees there) shown);
   counts = λ n count there in' low.
       let size : count_in holds.forest n.0 ≤ 4096 = index_below holds.forest.pages n.0 sound.counts in
       big_bytes-inj 8 count (count_in holds.forest n.0) low (omega arith)
@@ -54,6 +57,9 @@ compares_tell es memory store holds items hold = record {
 
     is_spelled : memory ≡ memory_by_pages holds.forest
     is_spelled = holds.spelled ∙ laid_is holds.forest
+
+    sizes : AllByRecursion (λ space. length space ≡ 4214784) memory
+    sizes = holds_sizes memory store holds
 
     mets : AllByRecursion (IsMet memory) items
     mets = compares_met es memory items hold

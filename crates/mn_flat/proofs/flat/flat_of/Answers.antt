@@ -5,7 +5,9 @@ use Rattle.mn_base.specs.declared.ids.NodeNo.{NodeNo}
 use Rattle.mn_base.proofs.Naturals.{below_or}
 use Rattle.mn_mini.specs.declared.record.Record.{Record}
 use Rattle.mn_mini.specs.Node.{held_parts, space_of, with_held}
-use Rattle.mn_world.specs.Opened.{AreSound, is_committed}
+use Rattle.mn_world.specs.Opened.{AreSound, HeldAreGreater, is_committed}
+use Rattle.mn_world.specs.Protocol.{start_of, base_at}
+use Rattle.mn_flat.proofs.Voting.{greater_of}
 use Rattle.mn_flat.specs.declared.error.VoteError.{VoteError}
 use Rattle.mn_page.specs.Base.{base_of}
 use Rattle.mn_flat.specs.Refusal.{RefusesRecords, IsWantOfMemory}
@@ -21,7 +23,7 @@ loop-n-preserved c =
     let records = c.args.records.now in
     let n = c.loop-n.n in
     let list : c.as_slice.result.now ≡ list_at records (numbered n) = c.as_slice.ensures ∙ read_or records n c.index-records-n.result [] c.loop-n-test.true c.index-records-n.is in
-    let right = c.in_ok-space_with.ensures.right records c.in_ok-told.ensures list in
+    let right = c.in_ok-space_with.ensures.right records c.in_ok-told.ensures list (omega arith) in
     record {
       spaces = c.in_ok-push.ensures.items
           ∙ one_more (opened_space records (λ k. base_of (length records) k.0)) c.loop-n.spaces.items n c.in_ok-space_with.field-0 c.loop-n.invariant.spaces
@@ -42,7 +44,7 @@ returns-in_err-space_with-clause-named c =
     let n = c.loop-n.n in
     let list : c.as_slice.result.now ≡ list_at records (numbered n) = c.as_slice.ensures ∙ read_or records n c.index-records-n.result [] c.loop-n-test.true c.index-records-n.is in
     let p = err_from_is_err_and c.from_residual-in_err-space_with.result c.from_residual-in_err-space_with.ensures.1 in
-    let said = refused records (numbered n) c.in_err-space_with.field-0.0 c.loop-n.invariant.right (c.in_err-space_with.ensures.wrong records c.in_ok-told.ensures list) in
+    let said = refused records (numbered n) c.in_err-space_with.field-0.0 c.loop-n.invariant.right (c.in_err-space_with.ensures.wrong records c.in_ok-told.ensures list (omega arith)) in
     rw p.1 (subst (RefusesRecords records) (sym p.2) said)
 
 pub returns-in_err-space_with-clause-unsound : goal.returns-in_err-space_with-clause-unsound
@@ -51,8 +53,8 @@ returns-in_err-space_with-clause-unsound c =
     let n = c.loop-n.n in
     let list : c.as_slice.result.now ≡ list_at records (numbered n) = c.as_slice.ensures ∙ read_or records n c.index-records-n.result [] c.loop-n-test.true c.index-records-n.is in
     let p = err_from_is_err_and c.from_residual-in_err-space_with.result c.from_residual-in_err-space_with.ensures.1 in
-    let said = refused records (numbered n) c.in_err-space_with.field-0.0 c.loop-n.invariant.right (c.in_err-space_with.ensures.wrong records c.in_ok-told.ensures list) in
-    rw p.1 (subst (λ (e : VoteError). (IsWantOfMemory e → ⊥) → AreSound (length records) (lists_of records) → ⊥) (sym p.2) (unfit records c.in_err-space_with.field-0.0 said))
+    let said = refused records (numbered n) c.in_err-space_with.field-0.0 c.loop-n.invariant.right (c.in_err-space_with.ensures.wrong records c.in_ok-told.ensures list (omega arith)) in
+    rw p.1 (subst (λ (e : VoteError). (IsWantOfMemory e → ⊥) → AreSound (length records) (lists_of records) → HeldAreGreater (length records) (base_at (start_of records)) (lists_of records) → ⊥) (sym p.2) (unfit records c.in_err-space_with.field-0.0 said))
 
 pub returns-clause-memory : goal.returns-clause-memory
 returns-clause-memory c =
@@ -62,3 +64,6 @@ returns-clause-memory c =
 
 pub returns-clause-sound : goal.returns-clause-sound
 returns-clause-sound c = right_fit c.args.records.now (λ n low. c.loop-n.invariant.right n (omega arith))
+
+pub returns-clause-greater : goal.returns-clause-greater
+returns-clause-greater c = greater_of c.args.records.now (λ n low. c.loop-n.invariant.right n (omega arith))

@@ -1,13 +1,9 @@
-use Rattle.std.proofs.Common.{[], List, length, OnOk, refl, sym, ap, ◌∙◌, subst}
+use Rattle.std.proofs.Common.{[], List, length, refl, sym, ap, ◌∙◌, subst}
 use Rattle.mn_actors.specs.Sight.{clients_of, nodes_of, view_of}
-use Rattle.mn_mini.specs.declared.record.Record.{Record}
 use Rattle.mn_node.specs.State.{NodeState}
-use Rattle.mn_world.specs.declared.entry.Entry.{Entry}
 use Rattle.mn_world.specs.Protocol.{start_of}
 use Rattle.mn_callers.specs.Failed.{IsRunOn}
 use Rattle.mn_callers.specs.Plays.{state_at}
-use Rattle.mn_callers.specs.Stages.{AreFreeIfSound, state_of}
-use Rattle.mn_callers.specs.Logs.{HasLog}
 use Rattle.mn_callers.specs.Trace.{HaveSoundRecords}
 use Rattle.mn_callers.specs.Turn.{callers_count}
 use Rattle.mn_callers.proofs.Opening.{all_back, as_named, first_play, fresh_play, holds_empty, not_begun}

@@ -10,7 +10,7 @@ use Rattle.mn_proxy.specs.Turns.{TurnAgrees}
 use Rattle.mn_work.specs.Works.{WantsNext}
 use Rattle.mn_world.specs.Places.{Place as Range}
 use Rattle.mn_proxy.proofs.Wanting.{answers_so, asks_catalog, asks_count, asks_page, counts_place}
-use Rattle.mn_proxy.proofs.Wanting.{answers_self, has_failed, kept_idle, kept_self, makes_plan, own_self}
+use Rattle.mn_proxy.proofs.Wanting.{answers_self, has_failed, kept_idle, kept_self, makes_plan, own_self, own_self_last}
 use Rattle.mn_work.proofs.Works.{catalog_asked, count_asked, page_asked, plan_asked, retry_after_wants, starts_right}
 use Rattle.mn_proxy.specs.Measure.{GoesBelow, left_after}
 use Rattle.mn_proxy.proofs.Measure.{known_goes}
@@ -34,7 +34,8 @@ any_err (Err e) A a = a
 
 pub returns-in_err-want-clause-left : goal.returns-in_err-want-clause-left
 returns-in_err-want-clause-left c = λ es own.
-    any_err c.from_residual.result _ (own_self es c.args.self.now c.want.new.self c.want.ensures.same c.want.ensures.kept own)
+    any_err c.from_residual.result _
+    (own_self_last es c.args.self.now c.want.new.self (is_later c.args.work.failed) None c.want.ensures.same c.want.ensures.kept c.in_err-want.ensures.cache own)
 
 -- The catalog
 
@@ -52,11 +53,11 @@ read_catalog-requires-clause-startable c =
 pub returns-in-Catalog-clause-turns : goal.returns-in-Catalog-clause-turns
 returns-in-Catalog-clause-turns c = λ es own rest.
     c.read_catalog.ensures.turns es (own_self es c.args.self.now c.want.new.self c.want.ensures.same c.want.ensures.kept own)
-    (asks_catalog es c.args.self.now c.want.new.self.known c.args.work c.want.new.work c.in_ok-want.field-0 c.want.ensures.kept c.requires.job c.want.ensures.op c.in_ok-want.ensures.wants c.causes_are_shown.ensures.causes c.causes_are_shown.ensures.worns c.causes_are_shown.ensures.left own rest c.in-Catalog.is)
+    (asks_catalog es c.args.self.now c.want.new.self.known c.args.work c.want.new.work c.in_ok-want.field-0 c.want.ensures.kept c.requires.job c.want.ensures.op c.in_ok-want.ensures.wants c.in_ok-want.ensures.cache c.in_ok-want.ensures.last c.causes_are_shown.ensures.causes c.causes_are_shown.ensures.worns c.causes_are_shown.ensures.left own rest c.in-Catalog.is)
 
 pub returns-in-Catalog-clause-left : goal.returns-in-Catalog-clause-left
 returns-in-Catalog-clause-left c = λ es own.
-    c.read_catalog.ensures.left es (own_self es c.args.self.now c.want.new.self c.want.ensures.same c.want.ensures.kept own)
+    c.read_catalog.ensures.left es (own_self_last es c.args.self.now c.want.new.self (is_later c.args.work.failed) (Some c.in_ok-want.field-0) c.want.ensures.same c.want.ensures.kept c.in_ok-want.ensures.cache own)
 
 pub returns-in-Catalog-clause-kept : goal.returns-in-Catalog-clause-kept
 returns-in-Catalog-clause-kept c =
@@ -78,12 +79,12 @@ read-requires-clause-node c =
 
 pub returns-in-Page-clause-turns : goal.returns-in-Page-clause-turns
 returns-in-Page-clause-turns c = λ es own rest.
-    let t = asks_page es c.args.self.now c.want.new.self.known c.args.work c.want.new.work c.in_ok-want.field-0 c.want.ensures.kept c.requires.job c.want.ensures.op c.in_ok-want.ensures.wants c.causes_are_shown.ensures.causes c.causes_are_shown.ensures.worns c.causes_are_shown.ensures.left own rest c.in-Page.addr c.in-Page.peek c.in-Page.is in
+    let t = asks_page es c.args.self.now c.want.new.self.known c.args.work c.want.new.work c.in_ok-want.field-0 c.want.ensures.kept c.requires.job c.want.ensures.op c.in_ok-want.ensures.wants c.in_ok-want.ensures.cache c.in_ok-want.ensures.last c.causes_are_shown.ensures.causes c.causes_are_shown.ensures.worns c.causes_are_shown.ensures.left own rest c.in-Page.addr c.in-Page.peek c.in-Page.is in
     c.read.ensures.turns es (own_self es c.args.self.now c.want.new.self c.want.ensures.same c.want.ensures.kept own) t.0 c.of_page-place.ensures t.1
 
 pub returns-in-Page-clause-left : goal.returns-in-Page-clause-left
 returns-in-Page-clause-left c = λ es own.
-    c.read.ensures.left es (own_self es c.args.self.now c.want.new.self c.want.ensures.same c.want.ensures.kept own)
+    c.read.ensures.left es (own_self_last es c.args.self.now c.want.new.self (is_later c.args.work.failed) (Some c.in_ok-want.field-0) c.want.ensures.same c.want.ensures.kept c.in_ok-want.ensures.cache own)
 
 pub returns-in-Page-clause-kept : goal.returns-in-Page-clause-kept
 returns-in-Page-clause-kept c =
@@ -105,7 +106,7 @@ read-requires-in-Count-clause-node c =
 
 pub returns-in-Count-clause-turns : goal.returns-in-Count-clause-turns
 returns-in-Count-clause-turns c = λ es own rest.
-    let asked = asks_count es c.args.self.now c.want.new.self.known c.args.work c.want.new.work c.in_ok-want.field-0 c.want.ensures.kept c.requires.job c.want.ensures.op c.in_ok-want.ensures.wants c.causes_are_shown.ensures.causes c.causes_are_shown.ensures.worns c.causes_are_shown.ensures.left own rest c.in-Count.node c.in-Count.peek c.in-Count.is in
+    let asked = asks_count es c.args.self.now c.want.new.self.known c.args.work c.want.new.work c.in_ok-want.field-0 c.want.ensures.kept c.requires.job c.want.ensures.op c.in_ok-want.ensures.wants c.in_ok-want.ensures.cache c.in_ok-want.ensures.last c.causes_are_shown.ensures.causes c.causes_are_shown.ensures.worns c.causes_are_shown.ensures.left own rest c.in-Count.node c.in-Count.peek c.in-Count.is in
     let t = count_asked c.args.self.now.known c.want.new.self.known c.args.work c.want.new.work c.want.ensures.kept c.requires.job c.want.ensures.op c.in-Count.node c.in-Count.peek c.want.ensures.few
     (subst (λ (n : Next). WantsNext c.want.new.self.known c.args.work c.want.new.work n) c.in-Count.is c.in_ok-want.ensures.wants) in
     c.read-in-Count.ensures.turns es (own_self es c.args.self.now c.want.new.self c.want.ensures.same c.want.ensures.kept own) asked.0
@@ -114,7 +115,7 @@ returns-in-Count-clause-turns c = λ es own rest.
 
 pub returns-in-Count-clause-left : goal.returns-in-Count-clause-left
 returns-in-Count-clause-left c = λ es own.
-    c.read-in-Count.ensures.left es (own_self es c.args.self.now c.want.new.self c.want.ensures.same c.want.ensures.kept own)
+    c.read-in-Count.ensures.left es (own_self_last es c.args.self.now c.want.new.self (is_later c.args.work.failed) (Some c.in_ok-want.field-0) c.want.ensures.same c.want.ensures.kept c.in_ok-want.ensures.cache own)
 
 pub returns-in-Count-clause-kept : goal.returns-in-Count-clause-kept
 returns-in-Count-clause-kept c =
@@ -137,11 +138,11 @@ issue-requires-clause-nodes c =
 pub returns-in-Plan-clause-turns : goal.returns-in-Plan-clause-turns
 returns-in-Plan-clause-turns c = λ es own rest.
     c.issue.ensures.turns es (own_self es c.args.self.now c.want.new.self c.want.ensures.same c.want.ensures.kept own)
-    (makes_plan es c.args.self.now c.want.new.self.known c.args.work c.want.new.work c.in_ok-want.field-0 c.want.ensures.kept c.requires.job c.want.ensures.op c.in_ok-want.ensures.wants c.causes_are_shown.ensures.causes c.causes_are_shown.ensures.worns c.causes_are_shown.ensures.left own rest c.in-Plan.mini c.in-Plan.reply c.in-Plan.is)
+    (makes_plan es c.args.self.now c.want.new.self.known c.args.work c.want.new.work c.in_ok-want.field-0 c.want.ensures.kept c.requires.job c.want.ensures.op c.in_ok-want.ensures.wants c.in_ok-want.ensures.cache c.in_ok-want.ensures.last c.causes_are_shown.ensures.causes c.causes_are_shown.ensures.worns c.causes_are_shown.ensures.left own rest c.in-Plan.mini c.in-Plan.reply c.in-Plan.is)
 
 pub returns-in-Plan-clause-left : goal.returns-in-Plan-clause-left
 returns-in-Plan-clause-left c = λ es own.
-    c.issue.ensures.left es (own_self es c.args.self.now c.want.new.self c.want.ensures.same c.want.ensures.kept own)
+    c.issue.ensures.left es (own_self_last es c.args.self.now c.want.new.self (is_later c.args.work.failed) (Some c.in_ok-want.field-0) c.want.ensures.same c.want.ensures.kept c.in_ok-want.ensures.cache own)
 
 pub returns-in-Plan-clause-kept : goal.returns-in-Plan-clause-kept
 returns-in-Plan-clause-kept c =
@@ -155,12 +156,12 @@ fail-requires-clause-startable c =
 
 pub returns-in-Fails-clause-turns : goal.returns-in-Fails-clause-turns
 returns-in-Fails-clause-turns c = λ es own rest.
-    c.fail.ensures.turns es (own_self es c.args.self.now c.want.new.self c.want.ensures.same c.want.ensures.kept own)
-    (has_failed es c.args.self.now c.want.new.self.known c.args.work c.want.new.work c.in_ok-want.field-0 c.want.ensures.kept c.requires.job c.want.ensures.op c.in_ok-want.ensures.wants c.causes_are_shown.ensures.causes c.causes_are_shown.ensures.worns c.causes_are_shown.ensures.left own rest c.in-Fails.cause c.in-Fails.is)
+    c.fail.ensures.turns es (own_self_last es c.args.self.now c.want.new.self (is_later c.args.work.failed) (Some c.in_ok-want.field-0) c.want.ensures.same c.want.ensures.kept c.in_ok-want.ensures.cache (own, rest.0.last.0))
+    (has_failed es c.args.self.now c.want.new.self.known c.args.work c.want.new.work c.in_ok-want.field-0 c.want.ensures.kept c.requires.job c.want.ensures.op c.in_ok-want.ensures.wants c.in_ok-want.ensures.cache c.in_ok-want.ensures.last c.causes_are_shown.ensures.causes c.causes_are_shown.ensures.worns c.causes_are_shown.ensures.left own rest c.in-Fails.cause c.in-Fails.is)
 
 pub returns-in-Fails-clause-left : goal.returns-in-Fails-clause-left
 returns-in-Fails-clause-left c = λ es own.
-    c.fail.ensures.left es (own_self es c.args.self.now c.want.new.self c.want.ensures.same c.want.ensures.kept own)
+    c.fail.ensures.left es (own_self_last es c.args.self.now c.want.new.self (is_later c.args.work.failed) (Some c.in_ok-want.field-0) c.want.ensures.same c.want.ensures.kept c.in_ok-want.ensures.cache own)
 
 pub returns-in-Fails-clause-kept : goal.returns-in-Fails-clause-kept
 returns-in-Fails-clause-kept c =
@@ -171,8 +172,9 @@ returns-in-Fails-clause-kept c =
 pub returns-in-Answers-clause-turns : goal.returns-in-Answers-clause-turns
 returns-in-Answers-clause-turns c = λ es own rest.
     subst (TurnAgrees es c.want.new.self) (ends_when c.want.new.self.work c.in-Answers.answer (kept_idle c.args.self.now c.want.new.self c.want.ensures.same c.want.ensures.kept c.requires.idle).1)
-    (answers_self es c.args.self.now c.want.new.self c.in-Answers.answer c.want.ensures.same c.want.ensures.kept own
-    (answers_so es c.args.self.now c.want.new.self.known c.args.work c.want.new.work c.in_ok-want.field-0 c.want.ensures.kept c.requires.job c.want.ensures.op c.in_ok-want.ensures.wants c.causes_are_shown.ensures.causes c.causes_are_shown.ensures.worns c.causes_are_shown.ensures.left own rest c.in-Answers.answer c.in-Answers.is))
+    (answers_self es c.args.self.now c.want.new.self c.in-Answers.answer c.want.ensures.same
+    (own_self_last es c.args.self.now c.want.new.self (is_later c.args.work.failed) (Some c.in_ok-want.field-0) c.want.ensures.same c.want.ensures.kept c.in_ok-want.ensures.cache (own, rest.0.last.0))
+    (answers_so es c.args.self.now c.want.new.self.known c.args.work c.want.new.work c.in_ok-want.field-0 c.want.ensures.kept c.requires.job c.want.ensures.op c.in_ok-want.ensures.wants c.in_ok-want.ensures.cache c.in_ok-want.ensures.last c.causes_are_shown.ensures.causes c.causes_are_shown.ensures.worns c.causes_are_shown.ensures.left own rest c.in-Answers.answer c.in-Answers.is))
 
 pub returns-in-Answers-clause-kept : goal.returns-in-Answers-clause-kept
 returns-in-Answers-clause-kept c =

@@ -1,5 +1,5 @@
 -- The operation that begins is the one of the newest entry, and has read nothing.
-use Rattle.std.proofs.Common.{subst, sym}
+use Rattle.std.proofs.Common.{ap, subst, sym, ◌∙◌}
 use Rattle.mn_proxy.specs.State.{ProxyState}
 use Rattle.mn_proxy.specs.Agrees.{Agrees, BeginsNext}
 use Rattle.mn_proxy.specs.contracts.proxy.Proxy.{the_view}
@@ -9,5 +9,6 @@ use Rattle.mn_proxy.proofs.proxy.Proxy.begin.Goals as goal
 pub returns-clause-agrees : goal.returns-clause-agrees
 returns-clause-agrees c = λ es e agrees begins.
     begins_agree es (the_view c.self.inside) c.args.work.op e c.args.work c.requires.new
+    (ap (λ (p : ProxyState). p.work) c.self.view_is ∙ c.requires.idle)
     (subst (Agrees es) (sym c.self.view_is) agrees)
     (subst (λ (p : ProxyState). BeginsNext es p.client c.args.work.op e) (sym c.self.view_is) begins)

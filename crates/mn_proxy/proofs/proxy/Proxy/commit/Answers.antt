@@ -2,7 +2,7 @@ use Rattle.mn_proxy.proofs.Ended.{ends_when}
 use Rattle.mn_proxy.specs.declared.step.ProxyStep.TheVariants as steps
 use Rattle.mn_base.specs.declared.answer.Answer.TheVariants as answers
 use Rattle.mn_proxy.specs.Turn.{turn_of, turned}
-use Rattle.std.proofs.Common.{◌≡◌, refl, subst}
+use Rattle.std.proofs.Common.{◌≡◌, ◌∙◌, Err, None, refl, subst, sym}
 use Rattle.mn_proxy.specs.Agrees.{MayWant}
 use Rattle.mn_proxy.specs.Measure.{GoesBelow, left_after}
 use Rattle.mn_proxy.specs.Turns.{IsCommitted, IsSoundTurn, TurnAgrees, read_alone}
@@ -13,11 +13,11 @@ use Rattle.mn_proxy.specs.declared.errand.Purpose.{Purpose}
 use Rattle.mn_proxy.specs.Turn.{Turn}
 use Rattle.mn_proxy.specs.Kept.{read_for}
 use Rattle.mn_work.specs.Walks.{is_later}
-use Rattle.mn_proxy.proofs.Kept.{cache_as, catalog_as, catalog_stays, leaf_as, read_some, unput_cache, unread_cache, unread_catalog, unread_leaf}
+use Rattle.mn_proxy.proofs.Kept.{cache_as, catalog_as, catalog_stays, leaf_as, read_none, read_some, unread_cache, unread_catalog, unread_leaf}
 use Rattle.mn_proxy.proofs.proxy.Proxy.commit.Goals as goal
 
-pub take-requires : goal.take-requires
-take-requires c = record { idle = c.requires.idle; few = c.requires.few; waits = c.requires.waits }
+pub take_copy-requires : goal.take_copy-requires
+take_copy-requires c = record { idle = c.requires.idle; few = c.requires.few; waits = c.requires.waits }
 
 pub returns-in-Plan-clause-sound : goal.returns-in-Plan-clause-sound
 returns-in-Plan-clause-sound c = subst (IsSoundTurn c.args.self.now.known) (ends_when c.args.self.now.work (answers.Replied c.in-Plan.reply) c.requires.idle) tt
@@ -52,41 +52,46 @@ returns-in-Plan-clause-leaf c = λ leaf.
     absurd (unread_leaf c.args.self.now.known c.args.work (read_for c.args.purpose c.args.reads.now)
     (ap (λ (p : Purpose). read_for p c.args.reads.now) c.in-Plan.is) leaf)
 
-pub returns-in-Ok : goal.returns-in-Ok
-returns-in-Ok c =
-    let whole : read_alone c.args.reads.now ≡ Some c.in-Ok.bytes = c.in-Ok.ensures in record {
-      sound = c.take.ensures.sound;
+pub returns-in-Some : goal.returns-in-Some
+returns-in-Some c =
+    let whole : read_alone c.args.reads.now ≡ Some c.in-Some.bytes.now = sym c.in-Some.ensures in record {
+      sound = c.take_copy.ensures.sound;
       turns = λ es own is.
           let d = committed_read es c.args.self.now.known c.args.work c.args.reads.now c.args.purpose c.in_default.not-Plan is in
-          c.take.ensures.turns es own (done_read es c.args.self.now.known c.args.work c.args.reads.now c.args.purpose c.in-Ok.bytes d whole) d.closed d.over;
+          c.take_copy.ensures.turns es own (done_read es c.args.self.now.known c.args.work c.args.reads.now c.args.purpose c.in-Some.bytes.now d whole) d.closed d.over;
       want = λ es own is.
           let d = committed_read es c.args.self.now.known c.args.work c.args.reads.now c.args.purpose c.in_default.not-Plan is in
-          on_err c.take.result (MayWant es) (read_may_want es c.args.self.now.known c.args.work c.args.reads.now c.args.purpose d);
+          on_err c.take_copy.result (MayWant es) (read_may_want es c.args.self.now.known c.args.work c.args.reads.now c.args.purpose d);
       left = λ es own is.
           let d = committed_read es c.args.self.now.known c.args.work c.args.reads.now c.args.purpose c.in_default.not-Plan is in
-          c.take.ensures.left es own (done_read es c.args.self.now.known c.args.work c.args.reads.now c.args.purpose c.in-Ok.bytes d whole);
-      kept = c.take.ensures.kept;
-      falls = c.take.ensures.falls;
-      cache = cache_as (read_for c.args.purpose c.args.reads.now) (Some (c.args.purpose, c.in-Ok.bytes)) (is_later c.args.work.failed)
-          c.args.self.now.known.cache c.take.new.self.known.cache (turned c.take.new.self.work c.take.result)
-          (read_some c.args.purpose c.args.reads.now c.in-Ok.bytes c.in_default.not-Plan whole) c.take.ensures.cache;
-      catalog = catalog_as (read_for c.args.purpose c.args.reads.now) (Some (c.args.purpose, c.in-Ok.bytes))
-          c.args.self.now.known.catalog c.take.new.self.known.catalog (turned c.take.new.self.work c.take.result)
-          (read_some c.args.purpose c.args.reads.now c.in-Ok.bytes c.in_default.not-Plan whole) c.take.ensures.catalog;
-      leaf = leaf_as c.args.self.now.known c.args.work (read_for c.args.purpose c.args.reads.now) (Some (c.args.purpose, c.in-Ok.bytes)) (turned c.take.new.self.work c.take.result)
-          (read_some c.args.purpose c.args.reads.now c.in-Ok.bytes c.in_default.not-Plan whole) c.take.ensures.leaf;
+          c.take_copy.ensures.left es own (done_read es c.args.self.now.known c.args.work c.args.reads.now c.args.purpose c.in-Some.bytes.now d whole);
+      kept = c.take_copy.ensures.kept;
+      falls = c.take_copy.ensures.falls;
+      cache = cache_as (read_for c.args.purpose c.args.reads.now) (Some (c.args.purpose, c.in-Some.bytes.now)) (is_later c.args.work.failed)
+          c.args.self.now.known.cache c.take_copy.new.self.known.cache (turned c.take_copy.new.self.work c.take_copy.result)
+          (read_some c.args.purpose c.args.reads.now c.in-Some.bytes.now c.in_default.not-Plan whole) c.take_copy.ensures.cache;
+      catalog = catalog_as (read_for c.args.purpose c.args.reads.now) (Some (c.args.purpose, c.in-Some.bytes.now))
+          c.args.self.now.known.catalog c.take_copy.new.self.known.catalog (turned c.take_copy.new.self.work c.take_copy.result)
+          (read_some c.args.purpose c.args.reads.now c.in-Some.bytes.now c.in_default.not-Plan whole) c.take_copy.ensures.catalog;
+      leaf = leaf_as c.args.self.now.known c.args.work (read_for c.args.purpose c.args.reads.now) (Some (c.args.purpose, c.in-Some.bytes.now)) (turned c.take_copy.new.self.work c.take_copy.result)
+          (read_some c.args.purpose c.args.reads.now c.in-Some.bytes.now c.in_default.not-Plan whole) c.take_copy.ensures.leaf;
     }
 
-pub returns-in-Err : goal.returns-in-Err
-returns-in-Err c = record {
-  sound = tt;
-  turns = λ es own is. tt;
-  want = λ es own is. read_may_want es c.args.self.now.known c.args.work c.args.reads.now c.args.purpose
-      (committed_read es c.args.self.now.known c.args.work c.args.reads.now c.args.purpose c.in_default.not-Plan is);
-  left = λ es own is. own;
-  kept = ((refl, refl, refl), c.requires.idle);
-  falls = tt;
-  cache = unput_cache (read_for c.args.purpose c.args.reads.now) (is_later c.args.work.failed) c.args.self.now.known.cache _;
-  catalog = tt;
-  leaf = λ leaf. tt;
-}
+-- what is committed has brought its bytes
+pub returns-in-None : goal.returns-in-None
+returns-in-None c =
+    let nothing : read_alone c.args.reads.now ≡ None = sym c.in-None.ensures in record {
+      sound = tt;
+      turns = λ es own is. tt;
+      want = λ es own is. read_may_want es c.args.self.now.known c.args.work c.args.reads.now c.args.purpose
+          (committed_read es c.args.self.now.known c.args.work c.args.reads.now c.args.purpose c.in_default.not-Plan is);
+      left = λ es own is.
+          let d = committed_read es c.args.self.now.known c.args.work c.args.reads.now c.args.purpose c.in_default.not-Plan is in
+          let both : Some d.bytes ≡ None = sym (ap read_alone d.reads_are) ∙ nothing in absurd cc;
+      kept = ((refl, refl, refl), c.requires.idle);
+      falls = tt;
+      cache = unread_cache (read_for c.args.purpose c.args.reads.now) (is_later c.args.work.failed) c.args.self.now.known.cache c.args.self.now.known.cache (Err _)
+          (read_none c.args.purpose c.args.reads.now nothing) refl;
+      catalog = tt;
+      leaf = λ leaf. tt;
+    }

@@ -9,7 +9,7 @@ use Rattle.mn_mini.specs.declared.reply.NodeReply.{NodeReply}
 use Rattle.mn_proxy.specs.Agrees.{MayWant}
 use Rattle.mn_proxy.specs.Turns.{IsCommitted, IsRefused, IsSoundTurn, TurnAgrees}
 use Rattle.mn_proxy.proofs.Answered.{may_want}
-use Rattle.mn_proxy.proofs.Coordinating.{fails_over, mini_commits, mini_doubts, mini_fails, on_err, waits_startable}
+use Rattle.mn_proxy.proofs.Coordinating.{fails_kept, fails_over, mini_commits, mini_doubts, mini_fails, on_err, waits_startable}
 use Rattle.mn_proxy.specs.Measure.{GoesBelow, left_after, left_of}
 use Rattle.mn_proxy.proofs.Measure.{mini_goes}
 use Rattle.std.proofs.Common.{Ok, Result}
@@ -82,7 +82,8 @@ pub returns-in-Failed-clause-turns : goal.returns-in-Failed-clause-turns
 returns-in-Failed-clause-turns c = λ es own m.
     let p = c.args.self.now in
     let same = c.next.ensures.after ∙ ap (after_step c.args.coordinator) c.in-Failed.is in
-    c.refuse.ensures.turns es own
+    c.refuse.ensures.turns es
+    (own, fails_kept es p.known c.args.work c.args.tid c.args.coordinator c.args.purpose c.in-Failed.node m (sym c.next.ensures.step ∙ c.in-Failed.is))
     (subst (λ (r : Option NodeReply). IsRefused es p.known c.args.work c.args.tid c.into_outcome.result.mini c.in-Failed.node r)
     (sym (c.into_outcome.ensures.reply ∙ ap (λ (x : Coordination). x.refused) same))
     (subst (λ (x : Mini). IsRefused es p.known c.args.work c.args.tid x c.in-Failed.node c.args.coordinator.refused)
@@ -95,7 +96,9 @@ returns-in-Failed-clause-want c = λ es own m.
     (fails_over es c.args.self.now c.args.work c.args.tid c.args.coordinator c.args.purpose c.in-Failed.node own m (sym c.next.ensures.step ∙ c.in-Failed.is)))
 
 pub returns-in-Failed-clause-left : goal.returns-in-Failed-clause-left
-returns-in-Failed-clause-left c = λ es own m. c.refuse.ensures.left es own
+returns-in-Failed-clause-left c = λ es own m.
+    c.refuse.ensures.left es
+    (own, fails_kept es c.args.self.now.known c.args.work c.args.tid c.args.coordinator c.args.purpose c.in-Failed.node m (sym c.next.ensures.step ∙ c.in-Failed.is))
 
 pub returns-in-Failed-clause-kept : goal.returns-in-Failed-clause-kept
 returns-in-Failed-clause-kept c = c.refuse.ensures.kept

@@ -15,8 +15,8 @@ use Rattle.mn_proxy.proofs.proxy.Proxy.retry.Goals as goal
 pub returns-clause-turns : goal.returns-clause-turns
 returns-clause-turns c = λ es own may.
     c.read_catalog.ensures.turns es
-    (own_forgotten_as es (the_view c.self.inside) c.args.self.now c.self.view_is own)
-    (retried_as es (the_view c.self.inside) c.args.self.now c.args.work c.retry.new.self c.self.view_is (c.retry.ensures ∙ ap retried c.get_mut.ensures.same) c.requires.startable may)
+    (own_forgotten_as es (the_view c.self.inside) c.args.self.now c.self.view_is own).0
+    (retried_as es (the_view c.self.inside) c.args.self.now c.args.work c.retry.new.self c.self.view_is (c.retry.ensures ∙ ap retried c.get_mut.ensures.same) c.requires.startable own.1 may)
 
 pub returns-clause-left : goal.returns-clause-left
 returns-clause-left c = λ es own.

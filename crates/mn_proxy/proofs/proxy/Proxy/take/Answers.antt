@@ -5,7 +5,7 @@ use Rattle.mn_proxy.specs.Turn.{turn_of, turned}
 use Rattle.std.proofs.Common.{◌≡◌, ◌∙◌, inl, inr, ap, subst, sym, refl, lit<}
 use Rattle.mn_proxy.specs.State.{ProxyState}
 use Rattle.mn_proxy.specs.Turns.{IsSoundTurn, TurnAgrees, WaitsFor, with_known}
-use Rattle.mn_proxy.specs.Agrees.{IsOwn}
+use Rattle.mn_proxy.specs.Agrees.{IsOwnLast}
 use Rattle.mn_work.specs.declared.next.Taken.{Taken}
 use Rattle.mn_proxy.specs.contracts.proxy.Proxy.{the_view}
 use Rattle.mn_proxy.proofs.Taking.{TakenTells, few_as, job_as, kept_as, none_left, none_made, none_turned, own_left_as, replies_as, sound_left, startable_as, tells_as}
@@ -49,8 +49,8 @@ returns-in_err-taken_for-clause-turns c = λ es own read closed over.
 
 pub returns-in_err-taken_for-clause-left : goal.returns-in_err-taken_for-clause-left
 returns-in_err-taken_for-clause-left c = λ es own read.
-    none_left c.from_residual.result (IsOwn es (with_known (the_view c.self.inside) c.taken_for.new.known))
-    (own_left_as es (the_view c.self.inside) c.args.self.now c.self.view_is c.taken_for.new.known c.args.work c.args.purpose c.args.bytes own read c.taken_for.ensures.leaves)
+    none_left c.from_residual.result (IsOwnLast es (with_known (the_view c.self.inside) c.taken_for.new.known))
+    (own_left_as es (the_view c.self.inside) c.args.self.now c.self.view_is c.taken_for.new.known c.args.work c.args.purpose c.args.bytes own read c.taken_for.result c.taken_for.ensures.leaves c.taken_for.ensures.cache)
 
 pub returns-in_err-taken_for-clause-kept : goal.returns-in_err-taken_for-clause-kept
 returns-in_err-taken_for-clause-kept c =
@@ -116,13 +116,14 @@ returns-in-GoesOn-clause-sound c = c.advance.ensures.sound
 pub returns-in-GoesOn-clause-turns : goal.returns-in-GoesOn-clause-turns
 returns-in-GoesOn-clause-turns c = λ es own read closed over.
     c.advance.ensures.turns es
-    (own_left_as es (the_view c.self.inside) c.args.self.now c.self.view_is c.taken_for.new.known c.args.work c.args.purpose c.args.bytes own read c.taken_for.ensures.leaves)
-    (tells_as es (the_view c.self.inside) c.args.self.now c.self.view_is c.taken_for.new.known c.args.work c.args.purpose c.args.bytes own read c.taken_for.new.work c.in_ok-taken_for.field-0 Taken.GoesOn c.in-GoesOn.is c.requires.waits closed over c.in_ok-taken_for.ensures.came)
+    (own_left_as es (the_view c.self.inside) c.args.self.now c.self.view_is c.taken_for.new.known c.args.work c.args.purpose c.args.bytes own read (Ok c.in_ok-taken_for.field-0) c.taken_for.ensures.leaves c.in_ok-taken_for.ensures.cache).0
+    (tells_as es (the_view c.self.inside) c.args.self.now c.self.view_is c.taken_for.new.known c.args.work c.args.purpose c.args.bytes own read c.taken_for.new.work c.in_ok-taken_for.field-0 Taken.GoesOn c.in-GoesOn.is c.requires.waits closed over c.in_ok-taken_for.ensures.came
+    (own_left_as es (the_view c.self.inside) c.args.self.now c.self.view_is c.taken_for.new.known c.args.work c.args.purpose c.args.bytes own read (Ok c.in_ok-taken_for.field-0) c.taken_for.ensures.leaves c.in_ok-taken_for.ensures.cache).1)
 
 pub returns-in-GoesOn-clause-left : goal.returns-in-GoesOn-clause-left
 returns-in-GoesOn-clause-left c = λ es own read.
     c.advance.ensures.left es
-    (own_left_as es (the_view c.self.inside) c.args.self.now c.self.view_is c.taken_for.new.known c.args.work c.args.purpose c.args.bytes own read c.taken_for.ensures.leaves)
+    (own_left_as es (the_view c.self.inside) c.args.self.now c.self.view_is c.taken_for.new.known c.args.work c.args.purpose c.args.bytes own read (Ok c.in_ok-taken_for.field-0) c.taken_for.ensures.leaves c.in_ok-taken_for.ensures.cache)
 
 pub returns-in-GoesOn-clause-kept : goal.returns-in-GoesOn-clause-kept
 returns-in-GoesOn-clause-kept c =
@@ -134,14 +135,15 @@ returns-in-Leaf-clause-sound c = c.advance-in-Leaf.ensures.sound
 pub returns-in-Leaf-clause-turns : goal.returns-in-Leaf-clause-turns
 returns-in-Leaf-clause-turns c = λ es own read closed over.
     c.advance-in-Leaf.ensures.turns es
-    (own_left_as es (the_view c.self.inside) c.args.self.now c.self.view_is c.taken_for.new.known c.args.work c.args.purpose c.args.bytes own read c.taken_for.ensures.leaves)
+    (own_left_as es (the_view c.self.inside) c.args.self.now c.self.view_is c.taken_for.new.known c.args.work c.args.purpose c.args.bytes own read (Ok c.in_ok-taken_for.field-0) c.taken_for.ensures.leaves c.in_ok-taken_for.ensures.cache).0
     (subst (λ (w : Work). TakenTells es c.taken_for.new.known w Taken.Leaf) (sym c.get_mut.ensures.same)
-    (tells_as es (the_view c.self.inside) c.args.self.now c.self.view_is c.taken_for.new.known c.args.work c.args.purpose c.args.bytes own read c.taken_for.new.work c.in_ok-taken_for.field-0 Taken.Leaf c.in-Leaf.is c.requires.waits closed over c.in_ok-taken_for.ensures.came))
+    (tells_as es (the_view c.self.inside) c.args.self.now c.self.view_is c.taken_for.new.known c.args.work c.args.purpose c.args.bytes own read c.taken_for.new.work c.in_ok-taken_for.field-0 Taken.Leaf c.in-Leaf.is c.requires.waits closed over c.in_ok-taken_for.ensures.came
+    (own_left_as es (the_view c.self.inside) c.args.self.now c.self.view_is c.taken_for.new.known c.args.work c.args.purpose c.args.bytes own read (Ok c.in_ok-taken_for.field-0) c.taken_for.ensures.leaves c.in_ok-taken_for.ensures.cache).1))
 
 pub returns-in-Leaf-clause-left : goal.returns-in-Leaf-clause-left
 returns-in-Leaf-clause-left c = λ es own read.
     c.advance-in-Leaf.ensures.left es
-    (own_left_as es (the_view c.self.inside) c.args.self.now c.self.view_is c.taken_for.new.known c.args.work c.args.purpose c.args.bytes own read c.taken_for.ensures.leaves)
+    (own_left_as es (the_view c.self.inside) c.args.self.now c.self.view_is c.taken_for.new.known c.args.work c.args.purpose c.args.bytes own read (Ok c.in_ok-taken_for.field-0) c.taken_for.ensures.leaves c.in_ok-taken_for.ensures.cache)
 
 pub returns-in-Leaf-clause-kept : goal.returns-in-Leaf-clause-kept
 returns-in-Leaf-clause-kept c =
@@ -152,7 +154,8 @@ returns-in-Replies-clause-sound c = subst (IsSoundTurn c.taken_for.new.known) (e
 
 pub returns-in-Replies-clause-turns : goal.returns-in-Replies-clause-turns
 returns-in-Replies-clause-turns c = λ es own read closed over.
-    replies_as es (the_view c.self.inside) c.args.self.now c.self.view_is c.taken_for.new.known c.args.work c.args.purpose c.args.bytes own read c.taken_for.new.work c.in_ok-taken_for.field-0 c.in-Replies.reply (turn_of (the_view c.self.inside).work (steps.Done (answers.Replied c.in-Replies.reply))) (with_known (the_view c.self.inside) c.taken_for.new.known) refl (sym (ends_when (the_view c.self.inside).work (answers.Replied c.in-Replies.reply) (ap (λ (p : ProxyState). p.work) c.self.view_is ∙ c.requires.idle))) c.in-Replies.is c.requires.waits closed over c.in_ok-taken_for.ensures.came c.taken_for.ensures.leaves
+    replies_as es (the_view c.self.inside) c.args.self.now c.self.view_is c.taken_for.new.known c.args.work c.args.purpose c.args.bytes own read c.taken_for.new.work c.in_ok-taken_for.field-0 c.in-Replies.reply (turn_of (the_view c.self.inside).work (steps.Done (answers.Replied c.in-Replies.reply))) (with_known (the_view c.self.inside) c.taken_for.new.known) refl (sym (ends_when (the_view c.self.inside).work (answers.Replied c.in-Replies.reply) (ap (λ (p : ProxyState). p.work) c.self.view_is ∙ c.requires.idle))) c.in-Replies.is c.requires.waits closed over c.in_ok-taken_for.ensures.came
+    (own_left_as es (the_view c.self.inside) c.args.self.now c.self.view_is c.taken_for.new.known c.args.work c.args.purpose c.args.bytes own read (Ok c.in_ok-taken_for.field-0) c.taken_for.ensures.leaves c.in_ok-taken_for.ensures.cache)
 
 pub returns-in-Replies-clause-kept : goal.returns-in-Replies-clause-kept
 returns-in-Replies-clause-kept c =
@@ -167,13 +170,14 @@ returns-in-Fails-clause-sound c = c.fail.ensures.sound
 pub returns-in-Fails-clause-turns : goal.returns-in-Fails-clause-turns
 returns-in-Fails-clause-turns c = λ es own read closed over.
     c.fail.ensures.turns es
-    (own_left_as es (the_view c.self.inside) c.args.self.now c.self.view_is c.taken_for.new.known c.args.work c.args.purpose c.args.bytes own read c.taken_for.ensures.leaves)
-    (tells_as es (the_view c.self.inside) c.args.self.now c.self.view_is c.taken_for.new.known c.args.work c.args.purpose c.args.bytes own read c.taken_for.new.work c.in_ok-taken_for.field-0 (Taken.Fails c.in-Fails.cause) c.in-Fails.is c.requires.waits closed over c.in_ok-taken_for.ensures.came)
+    (own_left_as es (the_view c.self.inside) c.args.self.now c.self.view_is c.taken_for.new.known c.args.work c.args.purpose c.args.bytes own read (Ok c.in_ok-taken_for.field-0) c.taken_for.ensures.leaves c.in_ok-taken_for.ensures.cache)
+    (tells_as es (the_view c.self.inside) c.args.self.now c.self.view_is c.taken_for.new.known c.args.work c.args.purpose c.args.bytes own read c.taken_for.new.work c.in_ok-taken_for.field-0 (Taken.Fails c.in-Fails.cause) c.in-Fails.is c.requires.waits closed over c.in_ok-taken_for.ensures.came
+    (own_left_as es (the_view c.self.inside) c.args.self.now c.self.view_is c.taken_for.new.known c.args.work c.args.purpose c.args.bytes own read (Ok c.in_ok-taken_for.field-0) c.taken_for.ensures.leaves c.in_ok-taken_for.ensures.cache).1)
 
 pub returns-in-Fails-clause-left : goal.returns-in-Fails-clause-left
 returns-in-Fails-clause-left c = λ es own read.
     c.fail.ensures.left es
-    (own_left_as es (the_view c.self.inside) c.args.self.now c.self.view_is c.taken_for.new.known c.args.work c.args.purpose c.args.bytes own read c.taken_for.ensures.leaves)
+    (own_left_as es (the_view c.self.inside) c.args.self.now c.self.view_is c.taken_for.new.known c.args.work c.args.purpose c.args.bytes own read (Ok c.in_ok-taken_for.field-0) c.taken_for.ensures.leaves c.in_ok-taken_for.ensures.cache)
 
 pub returns-in-Fails-clause-kept : goal.returns-in-Fails-clause-kept
 returns-in-Fails-clause-kept c =

@@ -6,7 +6,7 @@ use Rattle.std.proofs.Common.{refl, subst}
 use Rattle.mn_proxy.specs.Agrees.{MayWant, PeekedAgrees}
 use Rattle.mn_work.specs.Places.{place_of}
 use Rattle.mn_proxy.specs.Turns.{TurnAgrees}
-use Rattle.mn_proxy.proofs.Coordinating.{on_err, peeked_down, peeked_may_want}
+use Rattle.mn_proxy.proofs.Coordinating.{on_err, peeked_down, peeked_kept, peeked_may_want}
 use Rattle.std.proofs.Common.{◌≡◌, Err, Ok, Result, Some, ap}
 use Rattle.mn_base.specs.declared.error.NoMemory.{NoMemory}
 use Rattle.mn_mini.specs.declared.reply.NodeReply.{NodeReply}
@@ -37,7 +37,10 @@ returns-in_default c = record {
   turns = λ es own agrees. tt;
   want = λ es own agrees.
       peeked_may_want es c.args.self.now.known c.args.work (place_of c.args.place) c.args.purpose c.args.reply agrees.0 agrees.1;
-  left = λ es own agrees. own;
+  left = λ es own agrees. (
+    own,
+    peeked_kept es c.args.self.now.known c.args.work (place_of c.args.place) c.args.purpose c.args.reply c.in_default.not-Peeked agrees.0,
+  );
   kept = ((refl, refl, refl), c.requires.idle);
   falls = tt;
   cache = unread_cache (read_by (out.Peeked c.args.place c.args.reply c.args.purpose)) (is_later c.args.work.failed) c.args.self.now.known.cache c.args.self.now.known.cache (Err _)

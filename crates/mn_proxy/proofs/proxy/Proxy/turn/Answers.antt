@@ -19,6 +19,15 @@ returns-in-Nothing-clause-want c = λ es own rest.
     (rest_may_want es c.args.self.now.known c.args.work
     (subst (λ (e : Errand). ErrandAgrees es c.args.self.now.known c.args.work e) c.in-Nothing.is rest))
 
+pub returns-in-Nothing-clause-left : goal.returns-in-Nothing-clause-left
+returns-in-Nothing-clause-left c = λ es own rest.
+    c.advance.ensures.left es
+    (own, (subst (λ (e : Errand). ErrandAgrees es c.args.self.now.known c.args.work e) c.in-Nothing.is rest).0.last.0)
+
+pub returns-in-Peek-clause-left : goal.returns-in-Peek-clause-left
+returns-in-Peek-clause-left c = λ es own rest.
+    (own, (subst (λ (e : Errand). ErrandAgrees es c.args.self.now.known c.args.work e) c.in-Peek.is rest).0.0.last.0)
+
 pub returns-in-Nothing-clause-falls : goal.returns-in-Nothing-clause-falls
 returns-in-Nothing-clause-falls c =
     errand_goes c.args.self.now c.advance.new.self c.args.work c.args.errand (turned c.advance.new.self.work c.advance.result) c.advance.ensures.falls

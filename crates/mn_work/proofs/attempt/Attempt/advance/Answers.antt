@@ -2,6 +2,7 @@
 use Rattle.std.proofs.Common.{Option, rules, subst}
 use Rattle.mn_work.specs.declared.next.Next.{Next}
 use Rattle.mn_work.specs.Cached.{Walks}
+use Rattle.mn_work.proofs.Attempts.{ends_last, then_last}
 use Rattle.mn_work.proofs.Cached.{then_used, uses, walks_none, walks_on}
 use Rattle.mn_work.proofs.attempt.Attempt.advance.Goals as goal
 
@@ -23,4 +24,13 @@ loop-self-preserved c = (
       (walks_none c.args.later c.loop-self.known.cache c.run_step.new.known.cache
       (subst (λ (o : Option Next). Walks c.args.later o c.loop-self.known.cache c.run_step.new.known.cache) c.in_default.is c.in_ok-next.ensures.cache)),
   search rules,
+  then_last c.args.known.now.cache c.loop-self.known.cache c.args.self.now c.loop-self.self c.run_step.new.self c.loop-self.invariant.1 c.loop-self.invariant.3 c.in_ok-next.ensures.last,
 )
+
+pub returns-in-Some-clause-last : goal.returns-in-Some-clause-last
+returns-in-Some-clause-last c =
+    then_last c.args.known.now.cache c.loop-self.known.cache c.args.self.now c.loop-self.self c.run_step.new.self c.loop-self.invariant.1 c.loop-self.invariant.3 c.in_ok-next.ensures.last
+
+pub returns-clause-last : goal.returns-clause-last
+returns-clause-last c =
+    ends_last c.finish.result c.args.known.now.cache c.args.self.now c.loop-self.self c.finish.new.self c.loop-self.invariant.3 c.finish.ensures.pages

@@ -1,4 +1,5 @@
 use Rattle.std.proofs.Common.{◌≡◌, ◌-◌, length}
+use Rattle.mn_work.specs.Attempts.{StaysLast}
 use Rattle.mn_work.specs.Cached.{AreUsed}
 use Rattle.mn_work.proofs.Attempts.{RunsSo}
 use Rattle.mn_work.proofs.attempt.Attempt.advance.Given as goal
@@ -8,6 +9,7 @@ abbrev pub invariant-loop-self : goal.invariant-loop-self
 invariant-loop-self l =
     RunsSo l.fn.known l.known l.later l.steps l.fn.self l.self
     × AreUsed l.fn.known.cache l.known.cache × (l.all ≡ l.steps)
+    × StaysLast l.fn.known.cache l.fn.self l.self
 
 abbrev pub decreases-loop-self : goal.decreases-loop-self
 decreases-loop-self l = length l.all - l.self.done

@@ -1,6 +1,6 @@
 use Rattle.std.proofs.Common.{refl, subst}
 use Rattle.mn_work.specs.Attempts.{ComesIn}
-use Rattle.mn_work.proofs.Attempts.{by_kept, comes_on, unfit_may}
+use Rattle.mn_work.proofs.Attempts.{by_kept, comes_last, comes_on, unfit_may}
 use Rattle.mn_work.proofs.attempt.Attempt.reach_kept.Goals as goal
 
 pub returns-then-branch-clause-reached : goal.returns-then-branch-clause-reached
@@ -18,3 +18,11 @@ returns-then-branch-clause-reached c = (
 pub returns-else-branch-clause-reached : goal.returns-else-branch-clause-reached
 returns-else-branch-clause-reached c =
     unfit_may c.args.known.now c.kept_page.new.self c.args.steps.now c.args.self.now c.keep.new.self c.in_ok-kept.ensures.kept c.requires.way
+
+pub returns-then-branch-clause-last : goal.returns-then-branch-clause-last
+returns-then-branch-clause-last c =
+    comes_last c.args.known.now.cache c.args.self.now c.keep.new.self c.args.addr c.in-Some.kept.page _ (rw c.in-Some.is at c.in_ok-kept.ensures.found) c.in_ok-keep.ensures.comes
+
+pub returns-else-branch-clause-last : goal.returns-else-branch-clause-last
+returns-else-branch-clause-last c =
+    comes_last c.args.known.now.cache c.args.self.now c.keep.new.self c.args.addr c.in-Some.kept.page _ (rw c.in-Some.is at c.in_ok-kept.ensures.found) c.in_ok-keep.ensures.comes

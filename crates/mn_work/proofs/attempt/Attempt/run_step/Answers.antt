@@ -1,11 +1,11 @@
 -- None of the cached pages has left before the next one is wanted.
-use Rattle.std.proofs.Common.{◌∙◌, ◌<◌, ℕ, Ok, length, refl, subst, sym}
+use Rattle.std.proofs.Common.{◌∙◌, ◌<◌, ℕ, Ok, length, refl, rules, subst, sym}
 use Rattle.std.proofs.lemmas.Option.{slice_get_read}
 use Rattle.mn_tree.specs.State.{AsksFor}
 use Rattle.mn_work.specs.declared.attempt.Reached.{Reached}
 use Rattle.mn_work.specs.Attempts.{ReachesOn}
 use Rattle.mn_work.specs.Cached.{Walks, next_at}
-use Rattle.mn_work.proofs.Attempts.{asks_for, needs_on, on_its_way, runs_on}
+use Rattle.mn_work.proofs.Attempts.{asks_for, ends_last, needs_on, on_its_way, runs_on, then_last}
 use Rattle.mn_work.proofs.Cached.{then_used, uses, walks_none, walks_on}
 use Rattle.mn_work.proofs.attempt.Attempt.run_step.Goals as goal
 
@@ -31,6 +31,18 @@ reach-requires-clause-asks c =
     asks_for all before _ step c.in-Ok-Need.addr next need c.in-Ok-Need.ensures.state
     (subst (AsksFor c.step.new.self) c.in-Ok-Need.field-0-is c.in-Ok-Need.ensures.wanted)
 
+pub returns-in-Ok : goal.returns-in-Ok
+returns-in-Ok c = record {
+  kept = search rules;
+  cache = search rules;
+  stays = search rules;
+  counts = search rules;
+  later = search rules;
+  last = ends_last c.take.result c.args.known.now.cache c.args.self.now c.loop-level.self c.take.new.self c.loop-level.invariant.4 c.take.ensures.pages;
+  ran = search rules;
+  further = search rules;
+}
+
 pub returns-in_err-reach-clause-cache : goal.returns-in_err-reach-clause-cache
 returns-in_err-reach-clause-cache c =
     uses c.args.later _ c.args.known.now.cache c.reach.new.known.cache
@@ -49,6 +61,14 @@ returns-in-Unfit-clause-cache c =
     (walks_none c.args.later c.loop-level.known.cache c.reach.new.known.cache
     (subst (λ (r : Reached). Walks c.args.later (next_at c.args.later c.in-Ok-Need.addr (Ok r)) c.loop-level.known.cache c.reach.new.known.cache) c.in-Unfit.is c.in_ok-reach.ensures.cache)))
 
+pub returns-in-Needed-clause-last : goal.returns-in-Needed-clause-last
+returns-in-Needed-clause-last c =
+    then_last c.args.known.now.cache c.loop-level.known.cache c.args.self.now c.loop-level.self c.reach.new.self c.loop-level.invariant.1 c.loop-level.invariant.4 c.in_ok-reach.ensures.last
+
+pub returns-in-Unfit-clause-last : goal.returns-in-Unfit-clause-last
+returns-in-Unfit-clause-last c =
+    then_last c.args.known.now.cache c.loop-level.known.cache c.args.self.now c.loop-level.self c.reach.new.self c.loop-level.invariant.1 c.loop-level.invariant.4 c.in_ok-reach.ensures.last
+
 pub loop-level-preserved : goal.loop-level-preserved
 loop-level-preserved c =
     let came = subst (ReachesOn c.reach.new.known c.args.later c.args.steps.now c.in-Ok-Need.addr c.reach.new.self) c.in-Came.is c.in_ok-reach.ensures.reached in
@@ -60,4 +80,5 @@ loop-level-preserved c =
           (subst (λ (r : Reached). Walks c.args.later (next_at c.args.later c.in-Ok-Need.addr (Ok r)) c.loop-level.known.cache c.reach.new.known.cache) c.in-Came.is c.in_ok-reach.ensures.cache)),
       c.reach.ensures.done ∙ so_far.2,
       λ l. absurd cc,
+      then_last c.args.known.now.cache c.loop-level.known.cache c.args.self.now c.loop-level.self c.reach.new.self so_far.1 so_far.4 c.in_ok-reach.ensures.last,
     )

@@ -1,4 +1,5 @@
 use Rattle.std.proofs.Common.{◌≡◌, true}
+use Rattle.mn_work.specs.Attempts.{StaysLast}
 use Rattle.mn_work.specs.Cached.{AreUsed}
 use Rattle.mn_work.proofs.Attempts.{RunsSo}
 use Rattle.mn_work.proofs.attempt.Attempt.run_step.Given as goal
@@ -8,4 +9,4 @@ abbrev pub invariant-loop-level : goal.invariant-loop-level
 invariant-loop-level l =
     RunsSo l.fn.known l.known l.later l.steps l.fn.self l.self
     × AreUsed l.fn.known.cache l.known.cache × (l.self.done ≡ l.fn.self.done)
-    × (l.later ≡ true → l._level ≡ 0)
+    × (l.later ≡ true → l._level ≡ 0) × StaysLast l.fn.known.cache l.fn.self l.self

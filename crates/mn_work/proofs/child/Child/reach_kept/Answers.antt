@@ -1,11 +1,13 @@
-use Rattle.std.proofs.Common.{◌∙◌, false, Option, ap, refl, subst, sym}
+use Rattle.std.proofs.Common.{◌≡◌, ◌∙◌, false, Option, Some, ap, refl, subst, sym}
 use Rattle.std.specs.Option.{option_map}
 use Rattle.mn_page.specs.Grammar.{IsPage}
 use Rattle.mn_work.specs.declared.next.Next.{Next}
 use Rattle.mn_work.specs.Children.{WantsRoot}
 use Rattle.mn_work.specs.Knows.{ArePages}
 use Rattle.mn_work.proofs.Cached.{found, one_used, used}
-use Rattle.mn_work.proofs.Children.{takes_kept}
+use Rattle.mn_cache.specs.Pages.{page_at}
+use Rattle.mn_page.specs.declared.page.Page.{Page}
+use Rattle.mn_work.proofs.Children.{root_last, takes_kept}
 use Rattle.mn_work.proofs.child.Child.reach_kept.Goals as goal
 
 pub returns-in_err-page-in-Some-clause-kept : goal.returns-in_err-page-in-Some-clause-kept
@@ -35,3 +37,9 @@ returns-in_err-page-in-Some-clause-cache c = one_used c.args.self.now.root c.arg
 
 pub returns-clause-cache : goal.returns-clause-cache
 returns-clause-cache c = one_used c.args.self.now.root c.args.known.now.cache _ c.get.follows.holds-at-none
+
+pub returns-clause-last : goal.returns-clause-last
+returns-clause-last c =
+    root_last c.args.known.now.cache c.args.known.now.catalog c.args.self.now c.keep-taken.new.self c.in_ok-page-in-Some.page c.keep-taken.result
+    (subst (λ (p : Page). page_at c.args.self.now.root c.args.known.now.cache ≡ Some p) (sym c.in_ok-page-in-Some.ensures) (sym c.get.ensures.found ∙ ap (option_map (λ s. s.now.page)) c.in-Some.is))
+    c.keep-taken.ensures.stays c.keep-taken.ensures.taken

@@ -1,5 +1,4 @@
-use Rattle.std.proofs.Common.{◌≡◌, ◌<◌, ℕ, ap, arith, false, refl, subst, sym, ◌∙◌}
-use Rattle.mn_work.specs.declared.get.Descent.{Descent}
+use Rattle.std.proofs.Common.{◌≡◌, ℕ, arith, refl, subst, sym, ◌∙◌}
 use Rattle.mn_work.specs.Paths.{PathPasses}
 use Rattle.mn_work.proofs.Cached.{none_used, then_used}
 use Rattle.mn_work.proofs.Paths.{HasGone, all_gone, gone_none, gone_on}

@@ -1,5 +1,6 @@
-use Rattle.std.proofs.Common.{◌≡◌, ◌∙◌, ap, refl, subst, sym}
+use Rattle.std.proofs.Common.{◌≡◌, ◌∙◌, Some, ap, refl, subst, sym}
 use Rattle.std.specs.Option.{option_map}
+use Rattle.mn_cache.specs.Pages.{page_at}
 use Rattle.mn_cache.specs.declared.cache.Spelled.{Spelled}
 use Rattle.mn_page.specs.Grammar.{IsPage, page_bytes}
 use Rattle.mn_work.specs.Knows.{ArePages}
@@ -28,3 +29,8 @@ returns-in_ok-try_copy-in-Some-clause-used c = one_used c.args.addr c.args.self.
 pub returns-in_ok-try_copy-in-Some-clause-spelled : goal.returns-in_ok-try_copy-in-Some-clause-spelled
 returns-in_ok-try_copy-in-Some-clause-spelled c =
     subst (λ (s : Spelled). s.bytes ≡ page_bytes s.page) (sym c.in_ok-try_copy-in-Some.ensures) (rw c.in-Some.is at c.get.ensures.spelled)
+
+pub returns-in_ok-try_copy-in-Some-clause-found : goal.returns-in_ok-try_copy-in-Some-clause-found
+returns-in_ok-try_copy-in-Some-clause-found c =
+    subst (λ (s : Spelled). page_at c.args.addr c.args.self.now.cache ≡ Some s.page) (sym c.in_ok-try_copy-in-Some.ensures)
+    (sym c.get.ensures.found ∙ ap (option_map (λ s. s.now.page)) c.in-Some.is)

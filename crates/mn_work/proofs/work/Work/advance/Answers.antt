@@ -1,12 +1,12 @@
 use Rattle.std.proofs.Common.{◌≡◌, ◌∙◌, ap, false, refl, subst, sym, true}
-use Rattle.std.proofs.lemmas.Result.{IfOk-weaker}
+use Rattle.std.proofs.lemmas.Result.{IfOk-weaker, on_ok_weaker}
 use Rattle.mn_work.specs.declared.work.Work.{Work}
 use Rattle.mn_work.specs.Paths.{GetsAt, at_root}
 use Rattle.mn_work.specs.Walks.{is_later}
-use Rattle.mn_work.specs.Works.{GoesOnBy, lacks_catalog}
+use Rattle.mn_work.specs.Works.{GoesOnBy, JobIsLast, StaysLast, lacks_catalog}
 use Rattle.mn_work.proofs.Getting.{begins_there, has_catalog}
 use Rattle.mn_work.proofs.Cached.{stays}
-use Rattle.mn_work.proofs.Works.{wants_begun, wants_on}
+use Rattle.mn_work.proofs.Works.{starts_last, wants_begun, wants_on}
 use Rattle.mn_work.proofs.work.Work.advance.Goals as goal
 use Rattle.mn_work.proofs.work.Work.advance.Goals.{in-Start+in_ok-begin, in_default}
 
@@ -51,3 +51,24 @@ returns-clause-path c = λ op leaf new path.
           (subst (λ (x : Work). GetsAt x path.key (at_root path.version path.root)) is starts.0) path.leads
       | in_default w ↦ absurd (w.in_default.not-Start (ap (λ (x : Work). x.job) new))
     ]
+
+pub returns-clause-last : goal.returns-clause-last
+returns-clause-last c =
+    let pages = c.args.known.now.cache in
+    let before = c.args.self.now in
+    let from = c.match-self.self in
+    let after = c.go_on.new.self in
+    elim c.match-self.branch [
+      | in-Start+in_ok-begin w ↦
+          on_ok_weaker {P = StaysLast pages from.job after.job} c.go_on.result
+          (λ on es cached last.
+          on es cached (subst (λ (x : Work). JobIsLast es x.job) (sym w.self-is) (starts_last es c.args.known.now before w.begin.new.self w.in-Start.is w.in_ok-begin.ensures.starts)))
+          c.go_on.ensures.last
+      | in_default w ↦
+          on_ok_weaker {P = StaysLast pages from.job after.job} c.go_on.result
+          (λ on es cached last. on es cached (subst (λ (x : Work). JobIsLast es x.job) (sym w.self-is) last))
+          c.go_on.ensures.last
+    ]
+
+pub returns-then-lacks_catalog-clause-last : goal.returns-then-lacks_catalog-clause-last
+returns-then-lacks_catalog-clause-last c = λ es cached last. last

@@ -9,7 +9,9 @@ use Rattle.mn_base.specs.declared.op.Op.TheVariants.{Tx, Snapshot, Branch, Scan,
 use Rattle.mn_base.specs.declared.ids.VersionNo.{VersionNo}
 use Rattle.mn_page.specs.declared.page.Page.{Page}
 use Rattle.mn_page.specs.Grammar.{IsPage}
+use Rattle.mn_work.specs.declared.attempt.Attempt.{Attempt}
 use Rattle.mn_work.specs.declared.child.Child.{Child}
+use Rattle.mn_work.specs.Attempts as attempts
 use Rattle.mn_work.specs.Children.{IsOnItsWay, KeepsTry, TakesRoot, TakesRootBytes, may_copy, may_copy_by}
 use Rattle.mn_work.proofs.Children.{way_to}
 use Rattle.mn_base.specs.declared.op.Step.{Step}
@@ -22,8 +24,12 @@ use Rattle.mn_work.specs.declared.work.Job.TheVariants as at
 use Rattle.mn_scan.specs.Scan.{ScanState}
 use Rattle.mn_work.specs.Scans.{ScanGoesOn, StaysBefore}
 use Rattle.mn_work.specs.Descents.{DescentGoesOn, DescentTakes}
-use Rattle.mn_work.specs.Walks.{IsAbove}
-use Rattle.mn_work.specs.Works.{AsksPageFor, ChildTakes, GetTakes, IsJobIn, JobTakes, ScanTakes, lone_key}
+use Rattle.mn_work.specs.Walks.{IsAbove, is_later}
+use Rattle.mn_work.specs.Works.{AsksPageFor, ChildTakes, GetTakes, IsJobIn, JobTakes, ScanTakes, StepsTake, lone_key}
+use Rattle.mn_work.specs.Cached.{Puts}
+use Rattle.mn_work.specs.Knows.{ArePages}
+use Rattle.mn_work.proofs.Cached.{kept_without, replaces, without}
+use Rattle.mn_work.proofs.Works.{get_asks, read_any}
 use Rattle.mn_work.proofs.work.Work.take_page.Goals as goal
 
 takes_by : (o : Option (List CatEntry)) (d : Descent) (key bytes : List ℕ) (e : Descent) (taken : Taken)
@@ -64,6 +70,48 @@ returns-in-Some-clause-taken c =
     (get_kept c.args.known.now c.args.self.now.op c.args.self.now.job _ c.in-Get-Tx.steps c.in-Get-Tx.descent (sym c.get.ensures ∙ c.in-Get-Tx.is-1) c.in-Get-Tx.is-0 c.requires.job)
     c.take_page.ensures.above c.take_page.ensures.version
     c.take_page.ensures.taken)
+
+-- a transaction goes on by the same catalog
+
+steps_take : (known new : Known) (later : Bool) (steps : List Step) (addr : Addr) (bytes : List ℕ) (a b : Attempt)
+    (result : Result Taken NoMemory) → new.nodes ≡ known.nodes → new.catalog ≡ known.catalog
+    → attempts.KeepsVersion a b → b.counts ≡ a.counts
+    → IfOk result (attempts.TakesRead known later steps a addr bytes b)
+    → IfOk result (attempts.CameBySteps new steps b) → IfOk result (StepsTake known later steps addr bytes a b)
+steps_take known new later steps addr bytes a b (Ok taken) nodes catalog keeps counts takes way =
+    record { keeps = keeps; counts = counts; takes = takes; way = came taken way }
+  where
+    on : attempts.IsOnItsWay new steps b → attempts.IsOnItsWay known steps b
+    on w =
+        subst (λ (n : ℕ). MatchOption known.catalog ⊥ (λ entries. attempts.IsUnderWay n entries steps b)) nodes
+        (subst (λ (o : Option (List CatEntry)). MatchOption o ⊥ (λ entries. attempts.IsUnderWay new.nodes entries steps b)) catalog w)
+
+    came : (t : Taken) → attempts.CameBySteps new steps b t → attempts.CameBySteps known steps b t
+    came Taken.GoesOn w = on w
+    came Taken.Leaf w = tt
+    came (Taken.Replies reply) w = tt
+    came (Taken.Fails cause) w = tt
+steps_take known new later steps addr bytes a b (Err error) nodes catalog keeps counts takes way = tt
+
+of_steps : (known : Known) (later : Bool) (addr : Addr) (bytes : List ℕ) (op : Op) (job : Job) (name : List ℕ)
+    (steps : List Step) (a b : Attempt) (taken : Taken) → op ≡ Tx name steps → job ≡ at.Transaction a
+    → StepsTake known later steps addr bytes a b taken → JobTakes known later addr bytes op job (at.Transaction b) taken
+of_steps known later addr bytes op job name steps a b taken is from takes =
+    subst (λ (o : Op). JobTakes known later addr bytes o job (at.Transaction b) taken) (sym is)
+    (subst (λ (j : Job). JobTakes known later addr bytes (Tx name steps) j (at.Transaction b) taken) (sym from) takes)
+
+pub returns-in-Transaction-Tx-clause-taken : goal.returns-in-Transaction-Tx-clause-taken
+returns-in-Transaction-Tx-clause-taken c =
+    let known = c.args.known.now in
+    let steps = c.in-Transaction-Tx.steps in
+    let before = c.in-Transaction-Tx.attempt in
+    let after = c.take_page-in-Transaction-Tx.new.self in
+    let told = c.take_page-in-Transaction-Tx.ensures in
+    let later = is_later c.args.self.now.failed in
+    IfOk-weaker c.take_page-in-Transaction-Tx.result (StepsTake known later steps c.args.addr c.args.bytes before after) _
+    (λ taken takes. (refl, of_steps known later c.args.addr c.args.bytes c.args.self.now.op c.args.self.now.job _ steps before after taken (sym c.get.ensures ∙ c.in-Transaction-Tx.is-1) c.in-Transaction-Tx.is-0 takes))
+    (steps_take known c.take_page-in-Transaction-Tx.new.known later steps c.args.addr c.args.bytes before after c.take_page-in-Transaction-Tx.result told.kept.0 told.kept.1 told.stays told.counts
+    (subst (λ (l : Bool). IfOk c.take_page-in-Transaction-Tx.result (attempts.TakesRead known l steps before c.args.addr c.args.bytes after)) c.is_later-later.ensures told.taken) told.way)
 
 -- a Snapshot or a Branch stays on its way with its root page, or where it failed
 child_takes : (known : Known) (op : Op) (bytes : List ℕ) (c d : Child) (taken : Taken)
@@ -171,3 +219,56 @@ returns-in-Scan-Scan-clause-taken c =
     (scan_takes c.args.known.now name c.args.addr c.args.bytes scan after c.take_page-in-Scan-Scan.result c.take_page-in-Scan-Scan.ensures.above
     c.take_page-in-Scan-Scan.ensures.taken
     c.take_page-in-Scan-Scan.ensures.stays)
+
+-- the page of the address leaves first
+
+pub take_page-requires-clause-pages : goal.take_page-requires-clause-pages
+take_page-requires-clause-pages c = subst ArePages (sym c.drop_page.ensures.pages) (without c.args.addr c.args.known.now.cache c.requires.pages)
+
+pub returns-in-Some-clause-kept : goal.returns-in-Some-clause-kept
+returns-in-Some-clause-kept c = kept_without c.args.known.now c.take_page.new.known c.args.addr c.drop_page.new.self c.drop_page.ensures.pages c.take_page.ensures.kept
+
+pub returns-in-Transaction-Tx-clause-kept : goal.returns-in-Transaction-Tx-clause-kept
+returns-in-Transaction-Tx-clause-kept c = kept_without c.args.known.now c.take_page-in-Transaction-Tx.new.known c.args.addr c.drop_page.new.self c.drop_page.ensures.pages c.take_page-in-Transaction-Tx.ensures.kept
+
+pub returns-in-Child-default-clause-kept : goal.returns-in-Child-default-clause-kept
+returns-in-Child-default-clause-kept c = kept_without c.args.known.now c.take_page-in-Child-default.new.known c.args.addr c.drop_page.new.self c.drop_page.ensures.pages c.take_page-in-Child-default.ensures.kept
+
+pub returns-in-Scan-Scan-clause-kept : goal.returns-in-Scan-Scan-clause-kept
+returns-in-Scan-Scan-clause-kept c = kept_without c.args.known.now c.take_page-in-Scan-Scan.new.known c.args.addr c.drop_page.new.self c.drop_page.ensures.pages c.take_page-in-Scan-Scan.ensures.kept
+
+pub returns-in-Some-clause-cache : goal.returns-in-Some-clause-cache
+returns-in-Some-clause-cache c =
+    let at = get_asks c.args.known.now c.args.self.now.op c.args.self.now.job _ c.in-Get-Tx.steps c.in-Get-Tx.descent c.args.addr (sym c.get.ensures ∙ c.in-Get-Tx.is-1) c.in-Get-Tx.is-0 c.requires.asks in
+    replaces c.args.addr c.args.bytes c.args.known.now.cache c.drop_page.new.self c.take_page.new.known.cache c.take_page.result c.drop_page.ensures.pages c.drop_page.ensures.gone
+    (subst (λ (a : Addr). Puts a c.args.bytes c.drop_page.new.self c.take_page.new.known.cache c.take_page.result) at c.take_page.ensures.cache)
+
+pub returns-in-Transaction-Tx-clause-cache : goal.returns-in-Transaction-Tx-clause-cache
+returns-in-Transaction-Tx-clause-cache c =
+    replaces c.args.addr c.args.bytes c.args.known.now.cache c.drop_page.new.self c.take_page-in-Transaction-Tx.new.known.cache c.take_page-in-Transaction-Tx.result c.drop_page.ensures.pages c.drop_page.ensures.gone c.take_page-in-Transaction-Tx.ensures.cache
+
+pub returns-in-Child-default-clause-cache : goal.returns-in-Child-default-clause-cache
+returns-in-Child-default-clause-cache c =
+    let asks = child_asks c.args.known.now c.args.self.now.op c.args.self.now.job c.in-Child-default.child c.args.addr c.in-Child-default.is-0 c.requires.asks in
+    replaces c.args.addr c.args.bytes c.args.known.now.cache c.drop_page.new.self c.take_page-in-Child-default.new.known.cache c.take_page-in-Child-default.result c.drop_page.ensures.pages c.drop_page.ensures.gone
+    (subst (λ (a : Addr). Puts a c.args.bytes c.drop_page.new.self c.take_page-in-Child-default.new.known.cache c.take_page-in-Child-default.result) asks.0 c.take_page-in-Child-default.ensures.cache)
+
+pub returns-in-Scan-Scan-clause-cache : goal.returns-in-Scan-Scan-clause-cache
+returns-in-Scan-Scan-clause-cache c =
+    replaces c.args.addr c.args.bytes c.args.known.now.cache c.drop_page.new.self c.take_page-in-Scan-Scan.new.known.cache c.take_page-in-Scan-Scan.result c.drop_page.ensures.pages c.drop_page.ensures.gone c.take_page-in-Scan-Scan.ensures.cache
+
+-- of what a job goes by only a transaction's pages may be of the address
+
+pub returns-in-Some-clause-read : goal.returns-in-Some-clause-read
+returns-in-Some-clause-read c = read_any c.take_page.result c.args.addr c.args.bytes (at.Get c.take_page.new.self) tt
+
+pub returns-in-Transaction-Tx-clause-read : goal.returns-in-Transaction-Tx-clause-read
+returns-in-Transaction-Tx-clause-read c = c.take_page-in-Transaction-Tx.ensures.read
+
+pub returns-in-Child-default-clause-read : goal.returns-in-Child-default-clause-read
+returns-in-Child-default-clause-read c =
+    read_any c.take_page-in-Child-default.result c.args.addr c.args.bytes (at.Child c.take_page-in-Child-default.new.self) tt
+
+pub returns-in-Scan-Scan-clause-read : goal.returns-in-Scan-Scan-clause-read
+returns-in-Scan-Scan-clause-read c =
+    read_any c.take_page-in-Scan-Scan.result c.args.addr c.args.bytes (at.Scan c.take_page-in-Scan-Scan.new.scan) tt
