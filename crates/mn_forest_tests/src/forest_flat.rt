@@ -233,13 +233,7 @@ const DO_NOT_RISE: &[Refused] = &[
 ];
 
 /// Votes that rise, and such that need not: the other node has no vote, or both have the decision.
-const RISE: &[(&str, &str)] = &[
-    ("1", "1"),
-    ("1y", "1"),
-    ("h", ""),
-    ("hy", "hy"),
-    ("0n", "0n"),
-];
+const RISE: &[(&str, &str)] = &[("1", "1"), ("1y", "1"), ("h", ""), ("hy", "hy"), ("0", "")];
 
 #[test]
 fn what_is_held_of_a_committed_id_has_greater_numbers(rt: HostRuntime) -> Result<(), Fail> {
