@@ -64,13 +64,14 @@ fn item_rises(space: &[u8], node: NodeNo, item: &PartItem) -> bool
     }
 }
 
+/// Whether each item of a part does so.
 fn part_rises(space: &[u8], node: NodeNo, part: &[PartItem]) -> bool
     ensures { result ≡ list_all (item_rises space.now node) part.now }
 {
     part.iter().all(|item| item_rises(space, node, item))
 }
 
-/// Whether what is held for the id does so.
+/// Whether each item of what is held for the id does so.
 pub fn held_rises(space: &[u8], node: NodeNo, held: &[Held<'_>], tid: Tid) -> bool
     ensures { result ≡ list_all (λ h. not (tid_same h.tid tid)
         || list_all (item_rises space.now node) h.part.now) held.now }

@@ -124,7 +124,7 @@ fn vote_rises(told: &Told<'_>, held: &[Held<'_>], space: &[u8], node: NodeNo, ti
     !is_committed(&told.nodes, tid) || held_rises(space, node, held, tid)
 }
 
-/// Whether both are so.
+/// Whether a vote may stand there, and what its node holds of it in the end writes greater numbers.
 fn vote_stands(
     told: &Told<'_>,
     held: &[Held<'_>],
