@@ -20,10 +20,9 @@ use Rattle.mn_recov.specs.declared.stage.RecovStage.TheVariants.{Looking, Found}
 use Rattle.mn_recov.specs.declared.step.RecovStep.{RecovStep}
 use Rattle.mn_recov.specs.declared.step.RecovStep.TheVariants.{Send, Ended}
 use Rattle.mn_recov.specs.Recovery.{Recovery, after_force, after_list, fed, found_or, participant, stage_after, step_at, step_of}
-use Rattle.mn_world.specs.Calls.{is_in_doubt}
-use Rattle.mn_world.specs.Lists.{ClientState}
-use Rattle.mn_world.specs.Protocol.{Start, start_nodes}
-use Rattle.mn_world.specs.Run.{entries_of}
+use Rattle.mn_runs.specs.Calls.{is_in_doubt}
+use Rattle.mn_runs.specs.Lists.{ClientState}
+use Rattle.mn_runs.specs.Protocol.{Start, start_nodes, entries_of}
 use Rattle.mn_callers.specs.Desks.{IsWork}
 use Rattle.mn_callers.specs.Closing.{Extends, IsDone, IsDoneTo, IsPassedOver, WasPassedOver, are_nodes, calls_left, listed_in}
 use Rattle.mn_callers.proofs.Held.{decided_unheld, done_still, force_votes, found_still, listed_all, passed_still, unheld_still}

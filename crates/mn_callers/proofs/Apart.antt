@@ -16,8 +16,8 @@ use Rattle.mn_cell.specs.Station.{StationState}
 use Rattle.mn_hist.specs.Merging.{HaveCallers}
 use Rattle.mn_io.specs.DiskModel.{DiskState}
 use Rattle.mn_node.specs.State.{NodeState}
-use Rattle.mn_world.specs.declared.entry.Entry.{Entry}
-use Rattle.mn_world.specs.Protocol.{Start}
+use Rattle.mn_runs.specs.declared.entry.Entry.{Entry}
+use Rattle.mn_runs.specs.Protocol.{Start}
 use Rattle.mn_callers.specs.Ended.{AllHaveMade, AreMadeFromLast, HasMadeList, HoldsNodes, OwnsNodes, SameCallers}
 
 -- Lists

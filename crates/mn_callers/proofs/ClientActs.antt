@@ -12,14 +12,13 @@ use Rattle.mn_mini.specs.Mini.{Mini}
 use Rattle.mn_mini.specs.declared.reply.NodeReply.{NodeReply}
 use Rattle.mn_mini.specs.declared.reply.NodeReply.TheVariants as Say
 use Rattle.mn_script.specs.declared.elements.Point.{Point}
-use Rattle.mn_world.specs.declared.entry.Entry.{Entry}
-use Rattle.mn_world.specs.declared.entry.What.{What}
-use Rattle.mn_world.specs.declared.entry.What.TheVariants.{Begin, Issue, Called, Stopped, Restarted, Abandoned, Answered}
-use Rattle.mn_world.specs.Calls.{Begun, begun_in, begun_of, under_way}
-use Rattle.mn_world.specs.Clients.{last_number}
-use Rattle.mn_world.specs.Lists.{ClientState}
-use Rattle.mn_world.specs.Protocol.{IsOwnStep, Start}
-use Rattle.mn_world.specs.Run.{entries_of}
+use Rattle.mn_runs.specs.declared.entry.Entry.{Entry}
+use Rattle.mn_runs.specs.declared.entry.What.{What}
+use Rattle.mn_runs.specs.declared.entry.What.TheVariants.{Begin, Issue, Called, Stopped, Restarted, Abandoned, Answered}
+use Rattle.mn_runs.specs.Calls.{Begun, begun_in, begun_of, under_way}
+use Rattle.mn_runs.specs.Clients.{last_number}
+use Rattle.mn_runs.specs.Lists.{ClientState}
+use Rattle.mn_runs.specs.Protocol.{IsOwnStep, Start, entries_of}
 use Rattle.mn_hist.specs.Points.{may_stop}
 use Rattle.mn_proxy.specs.State.{ProxyState}
 use Rattle.mn_callers.specs.declared.client.Call.{Call}

@@ -24,15 +24,14 @@ use Rattle.mn_mini.specs.declared.reply.NodeReply.TheVariants as Say
 use Rattle.mn_mini.specs.declared.request.Request.{Request}
 use Rattle.mn_mini.specs.declared.request.Request.TheVariants as Ask
 use Rattle.mn_script.specs.declared.elements.Point.{Point}
-use Rattle.mn_world.specs.declared.entry.Entry.{Entry}
-use Rattle.mn_world.specs.declared.entry.What.{What}
-use Rattle.mn_world.specs.declared.entry.What.TheVariants.{Begin, Called, Stopped}
-use Rattle.mn_world.specs.Calls.{Begun, Call as Asked, begun_in, begun_of, calls_of, issue_in, under_way}
-use Rattle.mn_world.specs.Causes.{is_recovery, recovers_nothing}
-use Rattle.mn_world.specs.Clients.{last_number}
-use Rattle.mn_world.specs.Lists.{ClientState}
-use Rattle.mn_world.specs.Protocol.{Start, run_number, start_nodes}
-use Rattle.mn_world.specs.Run.{IsCallersStep, entries_of}
+use Rattle.mn_runs.specs.declared.entry.Entry.{Entry}
+use Rattle.mn_runs.specs.declared.entry.What.{What}
+use Rattle.mn_runs.specs.declared.entry.What.TheVariants.{Begin, Called, Stopped}
+use Rattle.mn_runs.specs.Calls.{Begun, Call as Asked, begun_in, begun_of, calls_of, issue_in, under_way}
+use Rattle.mn_runs.specs.Clients.{is_recovery, recovers_nothing, last_number}
+use Rattle.mn_runs.specs.Lists.{ClientState}
+use Rattle.mn_runs.specs.Protocol.{Start, run_number, start_nodes, entries_of}
+use Rattle.mn_law.specs.Run.{IsCallersStep}
 use Rattle.mn_hist.specs.Points.{may_stop, points_met}
 use Rattle.mn_hist.specs.Watching.{number_of}
 use Rattle.mn_hist.proofs.Flags.{none_met}

@@ -17,17 +17,15 @@ use Rattle.mn_mini.specs.declared.reply.NodeReply.{NodeReply}
 use Rattle.mn_mini.specs.declared.reply.NodeReply.TheVariants as Say
 use Rattle.mn_mini.specs.declared.request.Request.{Request}
 use Rattle.mn_script.specs.declared.elements.Point.{Point}
-use Rattle.mn_world.specs.declared.entry.Entry.{Entry}
-use Rattle.mn_world.specs.declared.entry.What.{What}
-use Rattle.mn_world.specs.declared.entry.What.TheVariants.{Begin, Issue, Called, Stopped, Restarted, Abandoned, Answered}
-use Rattle.mn_world.specs.Answers.{MeansBy}
-use Rattle.mn_world.specs.Calls.{Begun, Call as Asked, Issued, begun_in, begun_of, call_in, issue_in, issues_of, under_way, under_way_after}
-use Rattle.mn_world.specs.Causes.{recovers_nothing}
-use Rattle.mn_world.specs.Clients.{ClientAllows, last_number}
-use Rattle.mn_world.specs.Lists.{ClientState}
-use Rattle.mn_world.specs.Places.{Place}
-use Rattle.mn_world.specs.Protocol.{Start}
-use Rattle.mn_world.specs.Run.{entries_of}
+use Rattle.mn_runs.specs.declared.entry.Entry.{Entry}
+use Rattle.mn_runs.specs.declared.entry.What.{What}
+use Rattle.mn_runs.specs.declared.entry.What.TheVariants.{Begin, Issue, Called, Stopped, Restarted, Abandoned, Answered}
+use Rattle.mn_law.specs.Answers.{MeansBy}
+use Rattle.mn_runs.specs.Calls.{Begun, Call as Asked, Issued, begun_in, begun_of, call_in, issue_in, issues_of, under_way, under_way_after}
+use Rattle.mn_runs.specs.Clients.{recovers_nothing, ClientAllows, last_number}
+use Rattle.mn_runs.specs.Lists.{ClientState}
+use Rattle.mn_runs.specs.Seen.{Place}
+use Rattle.mn_runs.specs.Protocol.{Start, entries_of}
 use Rattle.mn_hist.specs.Points.{points_met}
 use Rattle.mn_hist.specs.Watching.{number_of}
 use Rattle.mn_proxy.specs.declared.errand.Errand.{Errand}

@@ -16,10 +16,9 @@ use Rattle.mn_base.specs.declared.op.Op.{Op}
 use Rattle.mn_script.specs.declared.elements.Point.{Point}
 use Rattle.mn_script.specs.declared.elements.ScriptClient.{ScriptClient}
 use Rattle.mn_script.specs.Script.{Script}
-use Rattle.mn_world.specs.declared.entry.Entry.{Entry}
-use Rattle.mn_world.specs.Lists.{ClientState}
-use Rattle.mn_world.specs.Protocol.{Start, start_nodes}
-use Rattle.mn_world.specs.Run.{entries_of}
+use Rattle.mn_runs.specs.declared.entry.Entry.{Entry}
+use Rattle.mn_runs.specs.Lists.{ClientState}
+use Rattle.mn_runs.specs.Protocol.{Start, start_nodes, entries_of}
 use Rattle.mn_callers.specs.declared.callers.Callers.{Callers}
 use Rattle.mn_callers.specs.declared.client.Client.{Client}
 use Rattle.mn_callers.specs.declared.desk.Desk.{Desk}

@@ -7,10 +7,9 @@ use Rattle.mn_actors.specs.declared.actor.Actor.TheVariants.{Client}
 use Rattle.mn_actors.specs.declared.clock.View.{View}
 use Rattle.mn_actors.specs.Lists.{IsJoined, IsSplit, Owns}
 use Rattle.mn_recov.specs.Recovery.{Recovery}
-use Rattle.mn_world.specs.declared.entry.Entry.{Entry}
-use Rattle.mn_world.specs.Lists.{ClientState}
-use Rattle.mn_world.specs.Protocol.{Start, start_nodes}
-use Rattle.mn_world.specs.Run.{entries_of}
+use Rattle.mn_runs.specs.declared.entry.Entry.{Entry}
+use Rattle.mn_runs.specs.Lists.{ClientState}
+use Rattle.mn_runs.specs.Protocol.{Start, start_nodes, entries_of}
 use Rattle.mn_callers.specs.declared.desk.Desk.{Desk}
 use Rattle.mn_callers.specs.Closing.{AreOfCloser, ClosesOn, IsCallOrRestart}
 use Rattle.mn_callers.specs.Desks.{IsOfRecovery}

@@ -17,7 +17,7 @@ use Rattle.mn_recov.specs.declared.stage.RecovStage.{RecovStage}
 use Rattle.mn_recov.specs.declared.stage.RecovStage.TheVariants.{Looking, Found}
 use Rattle.mn_recov.specs.declared.step.RecovStep.TheVariants.{Send, Ended}
 use Rattle.mn_recov.specs.Recovery.{Recovery, after_force, after_list, fed, found_or, participant, stage_after, step_at, step_of}
-use Rattle.mn_world.specs.Calls.{lists_doubt}
+use Rattle.mn_runs.specs.Calls.{lists_doubt}
 use Rattle.mn_callers.specs.Closing.{calls_left, calls_of}
 use Rattle.mn_callers.specs.Recoveries.{has_to_wait, is_force, is_vote}
 use Rattle.mn_callers.proofs.Held.{listed_all}

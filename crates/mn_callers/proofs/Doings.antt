@@ -3,8 +3,8 @@ use Rattle.std.proofs.Common.{◌≡◌, ℕ, ◌⊎◌, Bool, true, false, not,
 use Rattle.std.specs.Prelude.{MatchBool}
 use Rattle.mn_base.specs.declared.ids.NodeNo.{NodeNo}
 use Rattle.mn_cell.specs.Station.{StationState}
-use Rattle.mn_world.specs.Nodes.{is_down}
-use Rattle.mn_world.specs.Run.{entries_of}
+use Rattle.mn_runs.specs.Nodes.{is_down}
+use Rattle.mn_runs.specs.Protocol.{entries_of}
 use Rattle.mn_callers.specs.Doings.{GoesBy}
 
 -- the station that stands at the node's number says it

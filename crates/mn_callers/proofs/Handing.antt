@@ -20,14 +20,15 @@ use Rattle.mn_mini.specs.Node.{held_parts}
 use Rattle.mn_node.specs.Restart.{DamageNames}
 use Rattle.mn_node.specs.State.{NodeState}
 use Rattle.mn_script.specs.Script.{Script}
-use Rattle.mn_world.specs.declared.entry.Entry.{Entry}
-use Rattle.mn_world.specs.Calls.{node_entries}
-use Rattle.mn_world.specs.Laws.{RecordsStaySound}
-use Rattle.mn_world.specs.Nodes.{node_records}
-use Rattle.mn_world.specs.OneHistory.{AreFree}
-use Rattle.mn_world.specs.Opened.{AreSound}
-use Rattle.mn_world.specs.Protocol.{AllowedAt, FollowsProtocol, Start, base_at, records_of, start_nodes, start_of, start_records}
-use Rattle.mn_world.specs.Run.{RunsFollowProtocol, entries_of}
+use Rattle.mn_runs.specs.declared.entry.Entry.{Entry}
+use Rattle.mn_runs.specs.Calls.{node_entries}
+use Rattle.mn_commits.specs.Laws.{RecordsStaySound}
+use Rattle.mn_runs.specs.Nodes.{node_records}
+use Rattle.mn_runs.specs.Protocol.{AreFree}
+use Rattle.mn_runs.specs.Sound.{AreSound}
+use Rattle.mn_runs.specs.Protocol.{AllowedAt, FollowsProtocol, Start, base_at, records_of, start_nodes, start_of, start_records}
+use Rattle.mn_law.specs.Run.{RunsFollowProtocol}
+use Rattle.mn_runs.specs.Protocol.{entries_of}
 use Rattle.mn_callers.specs.Causes.{IsCaused}
 use Rattle.mn_callers.specs.Ended.{IsEnded}
 use Rattle.mn_callers.specs.Failed.{FailsSo, HasCause, IsAmong, IsRunOn, unasked_by_others}

@@ -8,8 +8,8 @@ use Rattle.mn_actors.specs.Lists.{held}
 use Rattle.mn_base.specs.declared.ids.ClientNo.{ClientNo}
 use Rattle.mn_base.proofs.Lists.{all_append, weaker}
 use Rattle.mn_cell.specs.Passes.{OwnsJust}
-use Rattle.mn_world.specs.declared.entry.Entry.{Entry}
-use Rattle.mn_world.specs.Lists.{ClientState}
+use Rattle.mn_runs.specs.declared.entry.Entry.{Entry}
+use Rattle.mn_runs.specs.Lists.{ClientState}
 use Rattle.mn_callers.specs.Hands.{Fall, Hand, HasTurn, MovesOn}
 
 -- Places

@@ -18,10 +18,9 @@ use Rattle.mn_cell.specs.Hearing.{HasOneLog, StationsStay}
 use Rattle.mn_cell.specs.Station.{HasCaller, StationState}
 use Rattle.mn_cell.proofs.Owed.{newest_entry}
 use Rattle.mn_cell.proofs.Running.{at_same, by_same}
-use Rattle.mn_world.specs.declared.entry.Entry.{Entry}
-use Rattle.mn_world.specs.Calls.{is_at, is_by}
-use Rattle.mn_world.specs.Protocol.{IsActor, Start}
-use Rattle.mn_world.specs.Run.{entries_of}
+use Rattle.mn_runs.specs.declared.entry.Entry.{Entry}
+use Rattle.mn_runs.specs.Calls.{is_at, is_by}
+use Rattle.mn_runs.specs.Protocol.{IsActor, Start, entries_of}
 use Rattle.mn_callers.specs.Hands.{Fall}
 use Rattle.mn_callers.specs.Plays.{HasTrail, IsAtRest, IsManned, PlayState, list_by}
 use Rattle.mn_callers.specs.Turn.{callers_count, trail_at, trail_by}

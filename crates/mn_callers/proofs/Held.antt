@@ -16,9 +16,9 @@ use Rattle.mn_mini.specs.declared.request.Request.{Request}
 use Rattle.mn_mini.specs.declared.request.Request.TheVariants as Ask
 use Rattle.mn_mini.specs.declared.reply.NodeReply.TheVariants as Say
 use Rattle.mn_mini.specs.Node.{HeldPart, answer, doubts_of, has_forced, has_voted, held_part_of, held_parts, is_held, is_of, only_reply, with_added, with_doubt, without_tid}
-use Rattle.mn_world.specs.Calls.{lists_doubt}
-use Rattle.mn_world.specs.Opened.{AreInPlace, AreSound, has_record, voted_participants}
-use Rattle.mn_world.proofs.Reading.Same.{tid_same-refl, tid_same-true}
+use Rattle.mn_runs.specs.Calls.{lists_doubt}
+use Rattle.mn_runs.specs.Sound.{AreInPlace, AreSound, has_record, voted_participants}
+use Rattle.mn_runs.proofs.Same.{tid_same-refl, tid_same-true}
 use Rattle.mn_callers.specs.Closing.{AreHeldIn, Extends, IsDone, IsNoVote, IsPassedOver, WasFound, WasPassedOver, are_nodes, listed_in}
 use Rattle.mn_callers.specs.Desks.{IsRecoveryCall}
 use Rattle.mn_callers.proofs.Turns.{by_flag}

@@ -23,12 +23,10 @@ use Rattle.mn_hist.specs.Merging.{AreOneLog, actor_list}
 use Rattle.mn_io.specs.DiskModel.{DiskState}
 use Rattle.mn_node.specs.State.{NodeState}
 use Rattle.mn_script.specs.Script.{Script}
-use Rattle.mn_world.specs.declared.entry.Entry.{Entry}
-use Rattle.mn_world.specs.Calls.{client_entries, is_at, is_by, node_entries}
-use Rattle.mn_world.specs.Laws.{NodeListAllowed}
-use Rattle.mn_world.specs.Lists.{ClientState}
-use Rattle.mn_world.specs.Protocol.{Start, start_nodes}
-use Rattle.mn_world.specs.Run.{entries_of}
+use Rattle.mn_runs.specs.declared.entry.Entry.{Entry}
+use Rattle.mn_runs.specs.Calls.{client_entries, is_at, is_by, node_entries}
+use Rattle.mn_runs.specs.Protocol.{NodeListAllowed, Start, start_nodes, entries_of}
+use Rattle.mn_runs.specs.Lists.{ClientState}
 use Rattle.mn_callers.specs.declared.callers.Callers.{Callers}
 use Rattle.mn_callers.specs.Causes.{IsCaused}
 use Rattle.mn_callers.specs.Ended.{AllHaveMade, AreLists, HoldsNodes, IsEnded}

@@ -12,13 +12,12 @@ use Rattle.mn_base.proofs.Booleans.{or_split}
 use Rattle.mn_base.proofs.Lists.{weaker}
 use Rattle.mn_script.specs.declared.elements.Point.{Point}
 use Rattle.mn_script.specs.declared.elements.Point.TheVariants.{Kill, Stop}
-use Rattle.mn_world.specs.declared.entry.Entry.{Entry}
-use Rattle.mn_world.specs.declared.entry.What.{What}
-use Rattle.mn_world.specs.declared.entry.What.TheVariants.{Begin, Issue, Called, Stopped, Restarted, Abandoned, Answered}
-use Rattle.mn_world.specs.Calls.{Begun, is_by, client_entries, under_way}
-use Rattle.mn_world.specs.Protocol.{IsOwnStep}
-use Rattle.mn_world.specs.Run.{entries_of}
-use Rattle.mn_world.proofs.Reading.Same.{client_same-refl}
+use Rattle.mn_runs.specs.declared.entry.Entry.{Entry}
+use Rattle.mn_runs.specs.declared.entry.What.{What}
+use Rattle.mn_runs.specs.declared.entry.What.TheVariants.{Begin, Issue, Called, Stopped, Restarted, Abandoned, Answered}
+use Rattle.mn_runs.specs.Calls.{Begun, is_by, client_entries, under_way}
+use Rattle.mn_runs.specs.Protocol.{IsOwnStep, entries_of}
+use Rattle.mn_runs.proofs.Same.{client_same-refl}
 use Rattle.mn_hist.specs.declared.points.Step.{Step}
 use Rattle.mn_hist.specs.Points.{asked_in, point_fits, is_vote_for, points_met, stops_same, voted_id, votes_for, votes_with, with_met}
 use Rattle.mn_hist.specs.Watching.{number_of, step_fits}

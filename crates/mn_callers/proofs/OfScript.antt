@@ -11,11 +11,10 @@ use Rattle.mn_base.specs.Ids.{client_same}
 use Rattle.mn_base.specs.declared.ids.ClientNo.{ClientNo}
 use Rattle.mn_cell.specs.Runs.{placed_from}
 use Rattle.mn_script.specs.Script.{Script}
-use Rattle.mn_world.specs.declared.entry.Entry.{Entry}
-use Rattle.mn_world.specs.Calls.{begun_of, client_entries, is_by}
-use Rattle.mn_world.specs.Causes.{recovers_nothing}
-use Rattle.mn_world.specs.Protocol.{Start}
-use Rattle.mn_world.specs.Run.{entries_of}
+use Rattle.mn_runs.specs.declared.entry.Entry.{Entry}
+use Rattle.mn_runs.specs.Calls.{begun_of, client_entries, is_by}
+use Rattle.mn_runs.specs.Clients.{recovers_nothing}
+use Rattle.mn_runs.specs.Protocol.{Start, entries_of}
 use Rattle.mn_callers.specs.declared.client.Client.{Client}
 use Rattle.mn_callers.specs.declared.desk.Desk.{Desk}
 use Rattle.mn_callers.specs.declared.callers.Callers.{Callers}

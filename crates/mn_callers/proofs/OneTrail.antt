@@ -10,10 +10,10 @@ use Rattle.mn_actors.specs.declared.actor.Actor.{Actor}
 use Rattle.mn_actors.specs.declared.actor.Actor.TheVariants.{Node, Client}
 use Rattle.mn_actors.specs.Lines.{Line, IsActor, stands_in}
 use Rattle.mn_actors.specs.Log.{IsManned, IsOneLog, entries_from}
-use Rattle.mn_world.specs.declared.entry.Entry.{Entry}
-use Rattle.mn_world.specs.Calls.{is_at, is_by}
-use Rattle.mn_world.specs.Run.{entries_of}
-use Rattle.mn_world.proofs.Reading.Same.{client_same-refl}
+use Rattle.mn_runs.specs.declared.entry.Entry.{Entry}
+use Rattle.mn_runs.specs.Calls.{is_at, is_by}
+use Rattle.mn_runs.specs.Protocol.{entries_of}
+use Rattle.mn_runs.proofs.Same.{client_same-refl}
 use Rattle.mn_cell.specs.Calls.{IsLegalLine, numbered}
 use Rattle.mn_cell.specs.Runs.{placed_from}
 use Rattle.mn_callers.specs.Hands.{Fall}

@@ -5,12 +5,11 @@ use Rattle.mn_base.specs.declared.ids.NodeNo.{NodeNo}
 use Rattle.mn_cell.specs.Calls.{numbered}
 use Rattle.mn_cell.specs.Station.{StationState}
 use Rattle.mn_io.specs.DiskModel.{DiskState}
-use Rattle.mn_world.specs.declared.entry.Entry.{Entry}
-use Rattle.mn_world.specs.Calls.{node_entries}
-use Rattle.mn_world.specs.Nodes.{is_down, node_records}
-use Rattle.mn_world.specs.OneHistory.{AreUp}
-use Rattle.mn_world.specs.Protocol.{Start, base_at, records_of, start_nodes, start_records}
-use Rattle.mn_world.specs.Run.{entries_of}
+use Rattle.mn_runs.specs.declared.entry.Entry.{Entry}
+use Rattle.mn_runs.specs.Calls.{node_entries}
+use Rattle.mn_runs.specs.Nodes.{is_down, node_records}
+use Rattle.mn_runs.specs.Protocol.{AreUp, Start, base_at, records_of, start_nodes, start_records}
+use Rattle.mn_runs.specs.Protocol.{entries_of}
 use Rattle.mn_callers.specs.Begins.{AreBare}
 use Rattle.mn_callers.specs.Ended.{AllHaveMade}
 use Rattle.mn_callers.specs.Logs.{HasLog}

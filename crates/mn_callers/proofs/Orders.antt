@@ -5,12 +5,11 @@ use Rattle.std.proofs.Math.Seq.{take-suc}
 use Rattle.mn_base.specs.declared.ids.ClientNo.{ClientNo}
 use Rattle.mn_base.specs.declared.op.Op.{Op}
 use Rattle.mn_script.specs.declared.elements.Point.{Point}
-use Rattle.mn_world.specs.declared.entry.Entry.{Entry}
-use Rattle.mn_world.specs.declared.entry.What.TheVariants.{Begin}
-use Rattle.mn_world.specs.Calls.{Begun, begun_in, begun_of}
-use Rattle.mn_world.specs.Lists.{ClientState}
-use Rattle.mn_world.specs.Protocol.{Start}
-use Rattle.mn_world.specs.Run.{entries_of}
+use Rattle.mn_runs.specs.declared.entry.Entry.{Entry}
+use Rattle.mn_runs.specs.declared.entry.What.TheVariants.{Begin}
+use Rattle.mn_runs.specs.Calls.{Begun, begun_in, begun_of}
+use Rattle.mn_runs.specs.Lists.{ClientState}
+use Rattle.mn_runs.specs.Protocol.{Start, entries_of}
 use Rattle.mn_callers.specs.declared.client.Client.{Client}
 use Rattle.mn_callers.specs.Acts.{BeginsFirst}
 use Rattle.mn_callers.specs.Clients.{IsOfRun, past_of}

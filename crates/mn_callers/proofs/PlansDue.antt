@@ -20,12 +20,12 @@ use Rattle.mn_coord.proofs.Legal.{commits}
 use Rattle.mn_coord.proofs.Stages.{asking}
 use Rattle.mn_coord.proofs.Tries.{none_since}
 use Rattle.mn_hist.specs.Points.{may_stop}
-use Rattle.mn_world.specs.declared.entry.Entry.{Entry}
-use Rattle.mn_world.specs.declared.entry.What.{What}
-use Rattle.mn_world.specs.declared.entry.What.TheVariants.{Begin, Issue, Called, Stopped, Restarted, Abandoned, Answered}
-use Rattle.mn_world.specs.Calls.{Call, Issued, is_done, is_exec, is_prepare, is_refused, is_try, issue_in, issues_of, since_begin, since_begin_after, was_abandoned, was_done, was_sent, was_told_somewhere}
-use Rattle.mn_world.specs.Answers.{is_given_up, is_settled}
-use Rattle.mn_world.specs.Clients.{is_over}
+use Rattle.mn_runs.specs.declared.entry.Entry.{Entry}
+use Rattle.mn_runs.specs.declared.entry.What.{What}
+use Rattle.mn_runs.specs.declared.entry.What.TheVariants.{Begin, Issue, Called, Stopped, Restarted, Abandoned, Answered}
+use Rattle.mn_runs.specs.Calls.{Call, Issued, is_done, is_exec, is_prepare, is_refused, is_try, issue_in, issues_of, since_begin, since_begin_after, was_abandoned, was_done, was_sent, was_told_somewhere}
+use Rattle.mn_runs.specs.Clients.{is_given_up, is_over}
+use Rattle.mn_law.specs.Answers.{is_settled}
 use Rattle.mn_proxy.specs.declared.errand.Errand.{Errand}
 use Rattle.mn_proxy.specs.declared.errand.Errand.TheVariants as out
 use Rattle.mn_work.specs.declared.work.Work.{Work}

@@ -9,12 +9,11 @@ use Rattle.mn_io.specs.DiskModel.{DiskState}
 use Rattle.mn_node.specs.State.{NodeState}
 use Rattle.mn_recov.specs.Recovery.{Recovery}
 use Rattle.mn_script.specs.Script.{Script}
-use Rattle.mn_world.specs.declared.entry.Entry.{Entry}
-use Rattle.mn_world.specs.Calls.{client_entries}
-use Rattle.mn_world.specs.Laws.{RecordsStaySound}
-use Rattle.mn_world.specs.OneHistory.{AreFree}
-use Rattle.mn_world.specs.Protocol.{FollowsProtocol, Start}
-use Rattle.mn_world.specs.Run.{IsRun, RunsFollowProtocol, entries_of}
+use Rattle.mn_runs.specs.declared.entry.Entry.{Entry}
+use Rattle.mn_runs.specs.Calls.{client_entries}
+use Rattle.mn_commits.specs.Laws.{RecordsStaySound}
+use Rattle.mn_runs.specs.Protocol.{AreFree, FollowsProtocol, Start, entries_of}
+use Rattle.mn_law.specs.Run.{IsRun, RunsFollowProtocol}
 use Rattle.mn_callers.specs.Failed.{FailsSo, IsDamage, IsRunOn, TellsRun}
 use Rattle.mn_callers.specs.Stages.{AreFreeIfSound, GoesAs, GoesOnBy, IsOfClient, Played, played_by}
 use Rattle.mn_callers.specs.Plays.{PlayState}

@@ -13,10 +13,10 @@ use Rattle.mn_recov.specs.declared.stage.RecovStage.TheVariants.{Looking}
 use Rattle.mn_recov.specs.declared.step.RecovStep.{RecovStep}
 use Rattle.mn_recov.specs.declared.step.RecovStep.TheVariants.{Send, Ended}
 use Rattle.mn_recov.specs.Recovery.{Recovery, fed, step_of}
-use Rattle.mn_world.specs.declared.entry.Entry.{Entry}
-use Rattle.mn_world.specs.Calls.{issues_of}
-use Rattle.mn_world.specs.Lists.{ClientState}
-use Rattle.mn_world.specs.Run.{entries_of}
+use Rattle.mn_runs.specs.declared.entry.Entry.{Entry}
+use Rattle.mn_runs.specs.Calls.{issues_of}
+use Rattle.mn_runs.specs.Lists.{ClientState}
+use Rattle.mn_runs.specs.Protocol.{entries_of}
 use Rattle.mn_callers.specs.Clients.{last_shared}
 use Rattle.mn_callers.specs.Recoveries.{AsksIf, AsksNext, Bench, DoesRecover, IsEntered, first, has_to_wait, is_force, is_vote, left_after, one_more, work_of}
 use Rattle.mn_callers.specs.Steps.{Adds, KeepsList}

@@ -18,13 +18,13 @@ use Rattle.mn_recov.specs.declared.step.RecovStep.{RecovStep}
 use Rattle.mn_recov.specs.declared.step.RecovStep.TheVariants.{Send, Ended}
 use Rattle.mn_recov.specs.Legal.{Agrees, IsAnswered}
 use Rattle.mn_recov.specs.Recovery.{Recovery, fed, step_at, step_of}
-use Rattle.mn_world.specs.declared.entry.Entry.{Entry}
-use Rattle.mn_world.specs.declared.entry.What.TheVariants.{Restarted}
-use Rattle.mn_world.specs.Calls.{Begun, Call, begun_in, begun_of, call_in, calls_of, is_exec, is_in_doubt, is_last_of, is_prepare, is_stopped}
-use Rattle.mn_world.specs.Clients.{Sends}
-use Rattle.mn_world.specs.Lists.{ClientState}
-use Rattle.mn_world.specs.Protocol.{IsOfRun, Start}
-use Rattle.mn_world.specs.Run.{IsLegalBy, entries_of}
+use Rattle.mn_runs.specs.declared.entry.Entry.{Entry}
+use Rattle.mn_runs.specs.declared.entry.What.TheVariants.{Restarted}
+use Rattle.mn_runs.specs.Calls.{Begun, Call, begun_in, begun_of, call_in, calls_of, is_exec, is_in_doubt, is_last_of, is_prepare, is_stopped}
+use Rattle.mn_runs.specs.Clients.{Sends}
+use Rattle.mn_runs.specs.Lists.{ClientState}
+use Rattle.mn_runs.specs.Protocol.{IsOfRun, Start, entries_of}
+use Rattle.mn_law.specs.Run.{IsLegalBy}
 use Rattle.mn_callers.specs.Desks.{DoubtsNothing, IsOfRecovery, IsRecoveryCall, IsWork}
 use Rattle.mn_callers.specs.Steps.{Adds, KeepsList}
 use Rattle.mn_callers.proofs.Turns.{if_none}

@@ -9,9 +9,9 @@ use Rattle.mn_base.specs.Ids.{client_same}
 use Rattle.mn_base.specs.declared.ids.ClientNo.{ClientNo}
 use Rattle.mn_base.proofs.Lists.{set_at, set_beside}
 use Rattle.mn_script.specs.Script.{Script}
-use Rattle.mn_world.specs.declared.entry.Entry.{Entry}
-use Rattle.mn_world.specs.Lists.{ClientState}
-use Rattle.mn_world.specs.Protocol.{Start}
+use Rattle.mn_runs.specs.declared.entry.Entry.{Entry}
+use Rattle.mn_runs.specs.Lists.{ClientState}
+use Rattle.mn_runs.specs.Protocol.{Start}
 use Rattle.mn_callers.specs.declared.client.Client.{Client}
 use Rattle.mn_callers.specs.declared.desk.Desk.{Desk}
 use Rattle.mn_callers.specs.declared.callers.Callers.{Callers}

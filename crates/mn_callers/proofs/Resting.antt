@@ -16,12 +16,11 @@ use Rattle.mn_base.proofs.Lists.{all_append}
 use Rattle.mn_cell.specs.Passes.{OwnsJust}
 use Rattle.mn_cell.specs.Runs.{IsIssueOf}
 use Rattle.mn_cell.specs.Station.{StationState}
-use Rattle.mn_world.specs.declared.entry.Entry.{Entry}
-use Rattle.mn_world.specs.Calls.{is_by}
-use Rattle.mn_world.specs.Lists.{ClientState}
-use Rattle.mn_world.specs.Protocol.{Start, start_nodes}
-use Rattle.mn_world.specs.Run.{entries_of}
-use Rattle.mn_world.proofs.Reading.Same.{client_same-refl, client_same-true}
+use Rattle.mn_runs.specs.declared.entry.Entry.{Entry}
+use Rattle.mn_runs.specs.Calls.{is_by}
+use Rattle.mn_runs.specs.Lists.{ClientState}
+use Rattle.mn_runs.specs.Protocol.{Start, start_nodes, entries_of}
+use Rattle.mn_runs.proofs.Same.{client_same-refl, client_same-true}
 use Rattle.mn_callers.specs.declared.callers.Callers.{Callers}
 use Rattle.mn_callers.specs.Plays.{HasTrail, HaveNumbers, IsAtRest, IsManned, PlayState, list_by}
 use Rattle.mn_callers.specs.Hands.{Fall}

@@ -12,10 +12,10 @@ use Rattle.mn_base.specs.Ids.{client_same}
 use Rattle.mn_base.specs.declared.ids.ClientNo.{ClientNo}
 use Rattle.mn_cell.specs.Hearing.{HasOneLog, StationsStay}
 use Rattle.mn_cell.specs.Station.{StationState}
-use Rattle.mn_world.specs.declared.entry.Entry.{Entry}
-use Rattle.mn_world.specs.Calls.{is_by}
-use Rattle.mn_world.specs.Protocol.{Start}
-use Rattle.mn_world.proofs.Reading.Same.{client_same-refl}
+use Rattle.mn_runs.specs.declared.entry.Entry.{Entry}
+use Rattle.mn_runs.specs.Calls.{is_by}
+use Rattle.mn_runs.specs.Protocol.{Start}
+use Rattle.mn_runs.proofs.Same.{client_same-refl}
 use Rattle.mn_callers.specs.Hands.{Fall}
 use Rattle.mn_callers.specs.Hearing.{GoesOnFrom, HaveGrown, IsAmongOwn}
 use Rattle.mn_callers.specs.Logs.{HasLog}

@@ -14,8 +14,8 @@ use Rattle.mn_cell.specs.Station.{IsNodeAtStart, StationState}
 use Rattle.mn_io.specs.DiskModel.{DiskState}
 use Rattle.mn_mini.specs.declared.record.Record.{Record}
 use Rattle.mn_node.specs.State.{NodeState}
-use Rattle.mn_world.specs.declared.entry.Entry.{Entry}
-use Rattle.mn_world.specs.Protocol.{start_of}
+use Rattle.mn_runs.specs.declared.entry.Entry.{Entry}
+use Rattle.mn_runs.specs.Protocol.{start_of}
 use Rattle.mn_callers.specs.Begins.{AreBare, HoldsEmpty}
 use Rattle.mn_callers.specs.Ended.{AreMadeFromLast, OwnsNodes, SameCallers}
 use Rattle.mn_callers.specs.Plays.{NamesGiven}

@@ -21,13 +21,12 @@ use Rattle.mn_cell.specs.Calls.{EndsBoth, IsUndamaged, entry_at, what_said}
 use Rattle.mn_cell.specs.Station.{HasMadeEntries, IsAsBefore, RoseBy, StationState, unasked, unasked_in}
 use Rattle.mn_cell.proofs.Owed.{newest_entry}
 use Rattle.mn_cell.specs.declared.trace.RunCause.TheVariants.{Disk}
-use Rattle.mn_world.specs.declared.entry.Entry.{Entry}
-use Rattle.mn_world.specs.declared.entry.What.{What}
-use Rattle.mn_world.specs.declared.entry.What.TheVariants.{Called, Stopped}
-use Rattle.mn_world.specs.Calls.{is_by}
-use Rattle.mn_world.specs.Nodes.{added_by, is_down, node_records, stopped_request}
-use Rattle.mn_world.specs.Protocol.{Start, base_at, start_records}
-use Rattle.mn_world.specs.Run.{entries_of}
+use Rattle.mn_runs.specs.declared.entry.Entry.{Entry}
+use Rattle.mn_runs.specs.declared.entry.What.{What}
+use Rattle.mn_runs.specs.declared.entry.What.TheVariants.{Called, Stopped}
+use Rattle.mn_runs.specs.Calls.{is_by}
+use Rattle.mn_runs.specs.Nodes.{added_by, is_down, node_records, stopped_request}
+use Rattle.mn_runs.specs.Protocol.{Start, base_at, start_records, entries_of}
 use Rattle.mn_callers.specs.Causes.{IsCaused, cause_of}
 use Rattle.mn_callers.specs.Doings.{HasAnswered, IsAnswer, IsDownAs, OthersStay}
 use Rattle.mn_callers.specs.Failed.{closer, unasked_by_others}

@@ -8,16 +8,15 @@ use Rattle.mn_cell.proofs.Owed.{newest_entry}
 use Rattle.mn_mini.specs.declared.reply.NodeReply.{NodeReply}
 use Rattle.mn_mini.specs.declared.reply.NodeReply.TheVariants as Say
 use Rattle.mn_mini.specs.declared.request.Request.{Request}
-use Rattle.mn_world.specs.declared.entry.Entry.{Entry}
-use Rattle.mn_world.specs.Lists.{ClientState}
-use Rattle.mn_world.specs.Run.{entries_of}
+use Rattle.mn_runs.specs.declared.entry.Entry.{Entry}
+use Rattle.mn_runs.specs.Lists.{ClientState}
+use Rattle.mn_runs.specs.Protocol.{entries_of, Start}
 use Rattle.std.specs.Prelude.{⊤, MatchOption}
 use Rattle.mn_recov.specs.Recovery.{Recovery}
-use Rattle.mn_world.specs.Protocol.{Start}
 use Rattle.mn_callers.specs.declared.desk.Desk.{Desk}
 use Rattle.mn_callers.specs.Desks.{IsDesk, IsOfRecovery, IsRecoveryStep, IsWork, RecoversOn}
 use Rattle.mn_callers.proofs.Recovering.{recovery_keeps, recovery_restarts}
-use Rattle.mn_world.specs.declared.entry.What.TheVariants.{Restarted}
+use Rattle.mn_runs.specs.declared.entry.What.TheVariants.{Restarted}
 use Rattle.mn_callers.specs.Steps.{Adds, MayRestart}
 use Rattle.mn_callers.proofs.Turns.{if_none}
 

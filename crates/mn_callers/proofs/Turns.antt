@@ -18,11 +18,12 @@ use Rattle.mn_mini.proofs.Parts.{same_self}
 use Rattle.mn_cell.specs.Calls.{EndsBoth, IsLegalLine, entry_at, numbered}
 use Rattle.mn_cell.specs.Passes.{OwnsJust}
 use Rattle.mn_cell.specs.Station.{StationState}
-use Rattle.mn_world.specs.declared.entry.Entry.{Entry}
-use Rattle.mn_world.specs.declared.entry.What.{What}
-use Rattle.mn_world.specs.Calls.{is_at}
-use Rattle.mn_world.specs.Lists.{ClientState}
-use Rattle.mn_world.specs.Run.{IsLegalBy, entries_of}
+use Rattle.mn_runs.specs.declared.entry.Entry.{Entry}
+use Rattle.mn_runs.specs.declared.entry.What.{What}
+use Rattle.mn_runs.specs.Calls.{is_at}
+use Rattle.mn_runs.specs.Lists.{ClientState}
+use Rattle.mn_law.specs.Run.{IsLegalBy}
+use Rattle.mn_runs.specs.Protocol.{entries_of}
 use Rattle.mn_callers.specs.Steps.{own_entry}
 use Rattle.mn_callers.specs.Hands.{Hand, HasTurn, IsOwnStep, MovesOn}
 use Rattle.mn_callers.specs.Stationed.{stations_go_on, stations_stay, trail_both}

@@ -12,13 +12,12 @@ use Rattle.mn_mini.specs.Mini.{participants_of, is_read}
 use Rattle.mn_script.specs.declared.elements.Point.{Point}
 use Rattle.mn_script.specs.declared.elements.ScriptClient.{ScriptClient}
 use Rattle.mn_script.specs.Script.{Script}
-use Rattle.mn_world.specs.declared.entry.Entry.{Entry}
-use Rattle.mn_world.specs.declared.entry.What.{What}
-use Rattle.mn_world.specs.declared.entry.What.TheVariants.{Begin, Issue, Abandoned, Answered}
-use Rattle.mn_world.specs.Calls.{Call, call_in, was_sent, was_done, was_abandoned, Issued}
-use Rattle.mn_world.specs.Calls.{issues_of, under_way, begun_of, since_begin}
-use Rattle.mn_world.specs.Causes.{is_recovery}
-use Rattle.mn_world.specs.Clients.{is_over, last_number}
+use Rattle.mn_runs.specs.declared.entry.Entry.{Entry}
+use Rattle.mn_runs.specs.declared.entry.What.{What}
+use Rattle.mn_runs.specs.declared.entry.What.TheVariants.{Begin, Issue, Abandoned, Answered}
+use Rattle.mn_runs.specs.Calls.{Call, call_in, was_sent, was_done, was_abandoned, Issued}
+use Rattle.mn_runs.specs.Calls.{issues_of, under_way, begun_of, since_begin}
+use Rattle.mn_runs.specs.Clients.{is_recovery, is_over, last_number}
 use Rattle.mn_callers.specs.Points.{has_died, stop_due, AsksAs}
 
 -- What stands to be done

@@ -7,7 +7,7 @@ use Rattle.mn_cell.specs.Station.{RoseBy, StationState}
 use Rattle.mn_node.specs.declared.restart.RestartError.{RestartError}
 use Rattle.mn_node.specs.declared.restart.RestartError.TheVariants as error
 use Rattle.mn_node.specs.Restart.{AreAbsent, IsNoLog, DamageNames}
-use Rattle.mn_world.specs.Run.{entries_of}
+use Rattle.mn_runs.specs.Protocol.{entries_of}
 use Rattle.mn_callers.specs.Failed.{unasked_by_others}
 
 -- the station of this number

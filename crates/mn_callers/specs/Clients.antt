@@ -9,14 +9,12 @@ use Rattle.mn_mini.specs.Sound.{IsSoundRequest}
 use Rattle.mn_proxy.specs.Agrees.{Agrees, HasOut}
 use Rattle.mn_proxy.specs.State.{IsIdle, IsReady, ProxyState}
 use Rattle.mn_script.specs.declared.elements.Point.{Point}
-use Rattle.mn_world.specs.declared.entry.Entry.{Entry}
-use Rattle.mn_world.specs.Calls.{Issued, begun_of, issues_of}
-use Rattle.mn_world.specs.Causes.{recovers_nothing}
-use Rattle.mn_world.specs.Clients.{Sends, last_number}
+use Rattle.mn_runs.specs.declared.entry.Entry.{Entry}
+use Rattle.mn_runs.specs.Calls.{Issued, begun_of, issues_of}
+use Rattle.mn_runs.specs.Clients.{recovers_nothing, Sends, last_number}
 use Rattle.mn_mini.specs.Mini.{participants_of, is_read}
-use Rattle.mn_world.specs.Lists.{ClientState}
-use Rattle.mn_world.specs.Protocol.{Start, run_number, start_nodes}
-use Rattle.mn_world.specs.Run.{entries_of}
+use Rattle.mn_runs.specs.Lists.{ClientState}
+use Rattle.mn_runs.specs.Protocol.{Start, run_number, start_nodes, entries_of}
 use Rattle.mn_hist.specs.Points.{points_met}
 use Rattle.mn_callers.specs.declared.client.Call.{Call}
 use Rattle.mn_callers.specs.declared.client.Client.{Client}

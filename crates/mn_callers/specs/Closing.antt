@@ -20,11 +20,11 @@ use Rattle.mn_mini.specs.Node.{doubts_of, held_parts, is_held}
 use Rattle.mn_recov.specs.declared.stage.RecovStage.{RecovStage}
 use Rattle.mn_recov.specs.declared.stage.RecovStage.TheVariants.{Looking, Found}
 use Rattle.mn_recov.specs.Recovery.{Recovery, participant}
-use Rattle.mn_world.specs.declared.entry.Entry.{Entry}
-use Rattle.mn_world.specs.declared.entry.What.{What}
-use Rattle.mn_world.specs.declared.entry.What.TheVariants.{Called, Restarted}
-use Rattle.mn_world.specs.Calls.{lists_doubt}
-use Rattle.mn_world.specs.Protocol.{Start, start_nodes}
+use Rattle.mn_runs.specs.declared.entry.Entry.{Entry}
+use Rattle.mn_runs.specs.declared.entry.What.{What}
+use Rattle.mn_runs.specs.declared.entry.What.TheVariants.{Called, Restarted}
+use Rattle.mn_runs.specs.Calls.{lists_doubt}
+use Rattle.mn_runs.specs.Protocol.{Start, start_nodes}
 use Rattle.mn_callers.specs.Desks.{IsOfRecovery}
 use Rattle.mn_callers.specs.Failed.{closer}
 use Rattle.mn_callers.specs.Settled.{records_at}

@@ -9,13 +9,12 @@ use Rattle.mn_mini.specs.declared.request.Request.{Request}
 use Rattle.mn_mini.specs.declared.request.Request.TheVariants as Ask
 use Rattle.mn_recov.specs.Legal.{Agrees}
 use Rattle.mn_recov.specs.Recovery.{Recovery}
-use Rattle.mn_world.specs.declared.entry.Entry.{Entry}
-use Rattle.mn_world.specs.declared.entry.What.{What}
-use Rattle.mn_world.specs.declared.entry.What.TheVariants.{Called, Stopped, Restarted}
-use Rattle.mn_world.specs.Calls.{begun_of, is_in_doubt}
-use Rattle.mn_world.specs.Lists.{ClientState}
-use Rattle.mn_world.specs.Protocol.{Start, start_nodes}
-use Rattle.mn_world.specs.Run.{entries_of}
+use Rattle.mn_runs.specs.declared.entry.Entry.{Entry}
+use Rattle.mn_runs.specs.declared.entry.What.{What}
+use Rattle.mn_runs.specs.declared.entry.What.TheVariants.{Called, Stopped, Restarted}
+use Rattle.mn_runs.specs.Calls.{begun_of, is_in_doubt}
+use Rattle.mn_runs.specs.Lists.{ClientState}
+use Rattle.mn_runs.specs.Protocol.{Start, start_nodes, entries_of}
 use Rattle.mn_callers.specs.declared.desk.Desk.{Desk}
 
 -- recovery coordinators are the actors from 17 on, for their numbers from 1 on

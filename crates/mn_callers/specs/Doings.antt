@@ -8,10 +8,10 @@ use Rattle.mn_mini.specs.declared.request.Request.{Request}
 use Rattle.mn_mini.specs.declared.reply.NodeReply.{NodeReply}
 use Rattle.mn_mini.specs.declared.reply.NodeReply.TheVariants as Say
 use Rattle.mn_mini.specs.Node.{answer, with_added}
-use Rattle.mn_world.specs.declared.entry.What.TheVariants.{Stopped, Restarted}
-use Rattle.mn_world.specs.Lists.{ClientState}
-use Rattle.mn_world.specs.Nodes.{is_down}
-use Rattle.mn_world.specs.Run.{entries_of}
+use Rattle.mn_runs.specs.declared.entry.What.TheVariants.{Stopped, Restarted}
+use Rattle.mn_runs.specs.Lists.{ClientState}
+use Rattle.mn_runs.specs.Nodes.{is_down}
+use Rattle.mn_runs.specs.Protocol.{entries_of}
 use Rattle.mn_callers.specs.Settled.{records_at}
 use Rattle.mn_callers.specs.Steps.{Adds, KeepsList}
 

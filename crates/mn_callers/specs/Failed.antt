@@ -11,11 +11,11 @@ use Rattle.mn_mini.specs.declared.record.Record.{Record}
 use Rattle.mn_node.specs.Restart.{AreAbsent, IsNoLog, DamageNames}
 use Rattle.mn_node.specs.State.{NodeState}
 use Rattle.mn_script.specs.Script.{Script}
-use Rattle.mn_world.specs.declared.entry.Entry.{Entry}
-use Rattle.mn_world.specs.Calls.{is_by, node_entries}
-use Rattle.mn_world.specs.Nodes.{added_by, is_down, stopped_request}
-use Rattle.mn_world.specs.Protocol.{Start, base_at, records_of}
-use Rattle.mn_world.specs.Run.{IsLogOfRun, entries_of}
+use Rattle.mn_runs.specs.declared.entry.Entry.{Entry}
+use Rattle.mn_runs.specs.Calls.{is_by, node_entries}
+use Rattle.mn_runs.specs.Nodes.{added_by, is_down, stopped_request}
+use Rattle.mn_runs.specs.Protocol.{Start, base_at, records_of, entries_of}
+use Rattle.mn_law.specs.Run.{IsLogOfRun}
 use Rattle.mn_callers.specs.Trace.{AreHandedBack, IsOfScript, start_on}
 
 -- the actor that opens and closes, halts and restarts

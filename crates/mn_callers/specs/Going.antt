@@ -16,16 +16,14 @@ use Rattle.mn_proxy.specs.Measure.{steps_left}
 use Rattle.mn_proxy.specs.State.{IsReady, ProxyState}
 use Rattle.mn_proxy.specs.declared.step.ProxyStep.{ProxyStep}
 use Rattle.mn_script.specs.declared.elements.Point.{Point}
-use Rattle.mn_world.specs.declared.entry.Entry.{Entry}
-use Rattle.mn_world.specs.declared.entry.What.{What}
-use Rattle.mn_world.specs.Answers.{MeansBy}
-use Rattle.mn_world.specs.Calls.{begun_in, begun_of, issue_in}
-use Rattle.mn_world.specs.Causes.{recovers_nothing}
-use Rattle.mn_world.specs.Clients.{ClientAllows, last_number}
-use Rattle.mn_world.specs.Lists.{ClientState}
-use Rattle.mn_world.specs.Protocol.{IsOwnStep, Start, run_number, start_nodes}
-use Rattle.mn_world.specs.Protocol.{IsOfRun as IsWhatOfRun}
-use Rattle.mn_world.specs.Run.{entries_of}
+use Rattle.mn_runs.specs.declared.entry.Entry.{Entry}
+use Rattle.mn_runs.specs.declared.entry.What.{What}
+use Rattle.mn_law.specs.Answers.{MeansBy}
+use Rattle.mn_runs.specs.Calls.{begun_in, begun_of, issue_in}
+use Rattle.mn_runs.specs.Clients.{recovers_nothing, ClientAllows, last_number}
+use Rattle.mn_runs.specs.Lists.{ClientState}
+use Rattle.mn_runs.specs.Protocol.{IsOwnStep, Start, run_number, start_nodes}
+use Rattle.mn_runs.specs.Protocol.{IsOfRun as IsWhatOfRun, entries_of}
 use Rattle.mn_hist.specs.Points.{may_stop, points_met}
 use Rattle.mn_hist.specs.Watching.{number_of}
 use Rattle.mn_callers.specs.declared.client.Call.{Call}

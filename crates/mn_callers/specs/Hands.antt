@@ -9,8 +9,8 @@ use Rattle.mn_actors.specs.Lists.{held}
 use Rattle.mn_actors.specs.Sight.{board_of, view_of}
 use Rattle.mn_base.specs.declared.ids.ClientNo.{ClientNo}
 use Rattle.mn_cell.specs.Passes.{OwnsJust}
-use Rattle.mn_world.specs.declared.entry.Entry.{Entry}
-use Rattle.mn_world.specs.Lists.{ClientState}
+use Rattle.mn_runs.specs.declared.entry.Entry.{Entry}
+use Rattle.mn_runs.specs.Lists.{ClientState}
 
 -- its pass and its list
 pub record Hand : Type 0 where

@@ -2,7 +2,7 @@
 use Rattle.std.specs.Prelude.{ℕ, ◌≡◌, ◌<◌, ◌≤◌, List, ◌++◌, map, Contains, IsSomeAnd}
 use Rattle.std.specs.List.{AllByRecursion}
 use Rattle.mn_base.specs.declared.ids.ClientNo.{ClientNo}
-use Rattle.mn_world.specs.declared.entry.Entry.{Entry}
+use Rattle.mn_runs.specs.declared.entry.Entry.{Entry}
 use Rattle.mn_callers.specs.declared.callers.Callers.{Callers}
 use Rattle.mn_callers.specs.Logs.{HasLog}
 use Rattle.mn_callers.specs.Plays.{PlayState, list_by}

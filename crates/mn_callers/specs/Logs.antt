@@ -1,7 +1,7 @@
 -- The log of a play. Lists of entries stand newest first.
 use Rattle.std.specs.Prelude.{◌≡◌, List, [], Option, None, map, replicate}
 use Rattle.mn_recov.specs.Recovery.{Recovery}
-use Rattle.mn_world.specs.declared.entry.Entry.{Entry}
+use Rattle.mn_runs.specs.declared.entry.Entry.{Entry}
 use Rattle.mn_callers.specs.declared.callers.Callers.{Callers}
 use Rattle.mn_callers.specs.Plays.{HasTrail, PlayState}
 use Rattle.mn_callers.specs.Turn.{past_in}

@@ -17,9 +17,8 @@ use Rattle.mn_io.specs.DiskModel.{DiskState}
 use Rattle.mn_mini.specs.declared.record.Record.{Record}
 use Rattle.mn_node.specs.State.{NodeState}
 use Rattle.mn_script.specs.Script.{Script}
-use Rattle.mn_world.specs.declared.entry.Entry.{Entry}
-use Rattle.mn_world.specs.Protocol.{Start, start_nodes}
-use Rattle.mn_world.specs.Run.{entries_of}
+use Rattle.mn_runs.specs.declared.entry.Entry.{Entry}
+use Rattle.mn_runs.specs.Protocol.{Start, start_nodes, entries_of}
 use Rattle.mn_callers.specs.declared.client.Client.{Client}
 use Rattle.mn_callers.specs.declared.desk.Desk.{Desk}
 use Rattle.mn_callers.specs.declared.callers.Callers.{Callers}

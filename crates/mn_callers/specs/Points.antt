@@ -9,10 +9,10 @@ use Rattle.mn_base.specs.declared.ids.NodeNo.{NodeNo}
 use Rattle.mn_mini.specs.declared.request.Request.{Request}
 use Rattle.mn_script.specs.declared.elements.Point.{Point}
 use Rattle.mn_script.specs.declared.elements.Point.TheVariants.{Kill, Stop}
-use Rattle.mn_world.specs.declared.entry.Entry.{Entry}
-use Rattle.mn_world.specs.declared.entry.What.{What}
-use Rattle.mn_world.specs.declared.entry.What.TheVariants.{Called, Stopped}
-use Rattle.mn_world.specs.Calls.{under_way}
+use Rattle.mn_runs.specs.declared.entry.Entry.{Entry}
+use Rattle.mn_runs.specs.declared.entry.What.{What}
+use Rattle.mn_runs.specs.declared.entry.What.TheVariants.{Called, Stopped}
+use Rattle.mn_runs.specs.Calls.{under_way}
 use Rattle.mn_cell.specs.Calls.{ObeysStop}
 use Rattle.mn_hist.specs.Points.{may_stop, points_met}
 

@@ -10,9 +10,9 @@ use Rattle.mn_mini.specs.declared.reply.NodeReply.{NodeReply}
 use Rattle.mn_mini.specs.declared.reply.NodeReply.TheVariants as Say
 use Rattle.mn_callers.specs.declared.desk.Desk.{Desk}
 use Rattle.mn_callers.specs.Clients.{last_shared}
-use Rattle.mn_world.specs.declared.entry.Entry.{Entry}
-use Rattle.mn_world.specs.Run.{entries_of}
-use Rattle.mn_world.specs.Calls.{issues_of}
+use Rattle.mn_runs.specs.declared.entry.Entry.{Entry}
+use Rattle.mn_runs.specs.Protocol.{entries_of}
+use Rattle.mn_runs.specs.Calls.{issues_of}
 use Rattle.mn_cell.specs.Calls.{entry_at, what_said}
 use Rattle.mn_recov.specs.declared.stage.RecovStage.TheVariants.{Looking}
 use Rattle.mn_recov.specs.declared.step.RecovStep.{RecovStep}

@@ -5,7 +5,7 @@ use Rattle.mn_base.specs.declared.ids.NodeNo.{NodeNo}
 use Rattle.mn_cell.specs.Station.{StationState}
 use Rattle.mn_mini.specs.declared.record.Record.{Record}
 use Rattle.mn_mini.specs.Node.{held_parts}
-use Rattle.mn_world.specs.Opened.{AreSound}
+use Rattle.mn_runs.specs.Sound.{AreSound}
 
 -- the records of each node, newest first
 abbrev pub records_at : {D : Type 0} → List (StationState D) → NodeNo → List Record

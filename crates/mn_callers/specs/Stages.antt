@@ -3,11 +3,10 @@ use Rattle.std.specs.Prelude.{◌≡◌, List, ◌++◌, Option, Some}
 use Rattle.std.specs.List.{AllByRecursion}
 use Rattle.mn_base.specs.declared.ids.ClientNo.{ClientNo}
 use Rattle.mn_recov.specs.Recovery.{Recovery}
-use Rattle.mn_world.specs.declared.entry.Entry.{Entry}
-use Rattle.mn_world.specs.Calls.{client_entries}
-use Rattle.mn_world.specs.OneHistory.{AreFree}
-use Rattle.mn_world.specs.Opened.{AreSound}
-use Rattle.mn_world.specs.Protocol.{FollowsProtocol, Start, records_of, start_nodes}
+use Rattle.mn_runs.specs.declared.entry.Entry.{Entry}
+use Rattle.mn_runs.specs.Calls.{client_entries}
+use Rattle.mn_runs.specs.Protocol.{AreFree, FollowsProtocol, Start, records_of, start_nodes}
+use Rattle.mn_runs.specs.Sound.{AreSound}
 use Rattle.mn_callers.specs.declared.stage.Move.{Move}
 use Rattle.mn_callers.specs.declared.stage.Move.TheVariants as moves
 use Rattle.mn_callers.specs.declared.stage.Stage.{Stage}

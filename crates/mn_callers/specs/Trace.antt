@@ -13,15 +13,15 @@ use Rattle.mn_mini.specs.RecordGrammar.{IsRecord}
 use Rattle.mn_node.specs.Node.{added_to}
 use Rattle.mn_node.specs.State.{NodeState}
 use Rattle.mn_script.specs.Script.{Script}
-use Rattle.mn_world.specs.declared.entry.Entry.{Entry}
-use Rattle.mn_world.specs.Calls.{client_entries, node_entries}
-use Rattle.mn_world.specs.Causes.{recovers_nothing}
-use Rattle.mn_world.specs.Nodes.{added_by, is_down, stopped_request}
-use Rattle.mn_world.specs.OneHistory.{AreFree, AreUp}
-use Rattle.mn_world.specs.Opened.{AreSound}
-use Rattle.mn_world.specs.Protocol.{Start, base_at, records_of, start_nodes, start_of}
-use Rattle.mn_world.specs.Protocol.{start_records}
-use Rattle.mn_world.specs.Run.{IsLogOfRun, entries_of}
+use Rattle.mn_runs.specs.declared.entry.Entry.{Entry}
+use Rattle.mn_runs.specs.Calls.{client_entries, node_entries}
+use Rattle.mn_runs.specs.Clients.{recovers_nothing}
+use Rattle.mn_runs.specs.Nodes.{added_by, is_down, stopped_request}
+use Rattle.mn_runs.specs.Protocol.{AreFree, AreUp}
+use Rattle.mn_runs.specs.Sound.{AreSound}
+use Rattle.mn_runs.specs.Protocol.{Start, base_at, records_of, start_nodes, start_of, start_records}
+use Rattle.mn_law.specs.Run.{IsLogOfRun}
+use Rattle.mn_runs.specs.Protocol.{entries_of}
 use Rattle.mn_callers.specs.Acts.{BeginsFirst, ops_by}
 
 -- The nodes

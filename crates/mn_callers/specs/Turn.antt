@@ -11,9 +11,9 @@ use Rattle.mn_actors.specs.Sight.{board_of, clients_of, id_of, nodes_of, view_of
 use Rattle.mn_base.specs.declared.ids.ClientNo.{ClientNo}
 use Rattle.mn_cell.specs.Calls.{numbered}
 use Rattle.mn_cell.specs.Station.{StationState}
-use Rattle.mn_world.specs.declared.entry.Entry.{Entry}
-use Rattle.mn_world.specs.Calls.{is_at, is_by}
-use Rattle.mn_world.specs.Lists.{ClientState}
+use Rattle.mn_runs.specs.declared.entry.Entry.{Entry}
+use Rattle.mn_runs.specs.Calls.{is_at, is_by}
+use Rattle.mn_runs.specs.Lists.{ClientState}
 use Rattle.mn_callers.specs.Hands.{Fall, Hand, HasTurn, MovesOn}
 use Rattle.mn_callers.specs.declared.table.Table.{Table}
 

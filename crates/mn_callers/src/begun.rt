@@ -5,9 +5,8 @@ ghost use Rattle.mn_actors.specs.Lines.{IsActor};
 ghost use Rattle.mn_actors.specs.Lists.{held};
 ghost use Rattle.mn_actors.specs.Sight.{board_of, clients_of, id_of, nodes_of, view_of};
 ghost use Rattle.mn_node.specs.State.{NodeState};
-ghost use Rattle.mn_world.specs.declared.entry.Entry.{Entry as Noted};
-ghost use Rattle.mn_world.specs.Protocol.{run_number, start_of};
-ghost use Rattle.mn_world.specs.Run.{entries_of};
+ghost use Rattle.mn_runs.specs.declared.entry.Entry.{Entry as Noted};
+ghost use Rattle.mn_runs.specs.Protocol.{run_number, start_of, entries_of};
 ghost use Rattle.std.specs.Prelude.{IsOk, List};
 ghost use Rattle.mn_callers.specs.Begun.{HasRooms};
 ghost use Rattle.mn_callers.specs.Causes.{IsCaused};
@@ -29,9 +28,10 @@ use mn_actors::{Board, Pass};
 use mn_base::Gate;
 use mn_cell::{Named, RunCause, RunFailed, Trace};
 use mn_io::Disk;
+use mn_law::CoreLaw;
 use mn_node::Node;
+use mn_runs::ClientList;
 use mn_script::Script;
-use mn_world::{ClientList, CoreLaw};
 use std::alloc::Global;
 
 /// A run that has begun: its stage, and the rooms for its end, which were taken before.

@@ -1,7 +1,7 @@
 //! The callers of a run.
 ghost use Rattle.std.specs.Prelude.{◌≡◌, ◌≤◌, [], length, IfOk, None, replicate};
 ghost use Rattle.mn_base.specs.declared.ids.ClientNo.{ClientNo as ClientNumber};
-ghost use Rattle.mn_world.specs.Protocol.{Start, run_number, start_nodes};
+ghost use Rattle.mn_runs.specs.Protocol.{Start, run_number, start_nodes};
 ghost use Rattle.mn_callers.specs.Begins.{AreNewClients, AreNewDesks};
 ghost use Rattle.mn_callers.specs.Logs.{works_of};
 ghost use Rattle.mn_callers.specs.Plays.{AreCallers, AreReady, HaveNumbers, list_by};
@@ -10,8 +10,8 @@ use crate::client::Client;
 use crate::desk::Desk;
 use crate::settle::{CLOSER, Closer};
 use mn_base::{ClientNo, NoMemory};
+use mn_runs::ClientList;
 use mn_script::Script;
-use mn_world::ClientList;
 use std::alloc::Global;
 
 /// How many actors a board has that call nodes: the clients, the coordinator that opens and closes,

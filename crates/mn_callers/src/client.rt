@@ -9,7 +9,7 @@ ghost use Rattle.mn_mini.specs.RecordGrammar.{IsTid};
 ghost use Rattle.mn_mini.specs.Sound.{Fits, IsDecide, IsSoundRequest};
 ghost use Rattle.mn_proxy.specs.Measure.{Falls, steps_left};
 ghost use Rattle.mn_proxy.specs.State.{ProxyState};
-ghost use Rattle.mn_world.specs.Protocol.{Start, run_number, start_nodes};
+ghost use Rattle.mn_runs.specs.Protocol.{Start, run_number, start_nodes};
 ghost use Rattle.mn_callers.specs.Acts.{BeginsOp, CallsOnce, DoesAll, DoesGo, DoesPlan, DoesStep};
 ghost use Rattle.mn_callers.specs.Acts.{GoesByItself, IsUnderWay, as_role, has_work};
 ghost use Rattle.mn_callers.specs.Clients.{HasProxy, IsAtSteps, IsClient, MayCallNext, IsOfRun};
@@ -27,11 +27,12 @@ use crate::transport::Transport;
 use mn_actors::Pass;
 use mn_base::{Answer, ClientNo, NoMemory, NodeNo, SharedOp, Tid, TryCopy};
 use mn_hist::{may_stop, none_met};
+use mn_law::CoreLaw;
 use mn_mini::{Minitransaction, NodeReply, Request};
 use mn_proxy::{Proxy, ProxyStep};
+use mn_runs::{ClientList, What};
 use mn_script::Point;
 use mn_work::Task;
-use mn_world::{ClientList, CoreLaw, What};
 use std::alloc::Global;
 
 /// For how many entries a client's list has room at first: about those of as many operations as a

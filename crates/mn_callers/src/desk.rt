@@ -4,11 +4,10 @@ ghost use Rattle.std.specs.Prelude.{MatchOption, None, OnErr, OnOk, ⊤};
 ghost use Rattle.mn_cell.specs.Calls.{entry_at, what_said};
 ghost use Rattle.mn_mini.specs.RecordGrammar.{IsTid};
 ghost use Rattle.mn_mini.specs.Sound.{Fits, IsDecide, IsSoundRequest};
-ghost use Rattle.mn_world.specs.declared.entry.Entry.{Entry};
-ghost use Rattle.mn_world.specs.Calls.{issues_of};
-ghost use Rattle.mn_world.specs.Clients.{Sends};
-ghost use Rattle.mn_world.specs.Protocol.{Start, start_nodes};
-ghost use Rattle.mn_world.specs.Run.{entries_of};
+ghost use Rattle.mn_runs.specs.declared.entry.Entry.{Entry};
+ghost use Rattle.mn_runs.specs.Calls.{issues_of};
+ghost use Rattle.mn_runs.specs.Clients.{Sends};
+ghost use Rattle.mn_runs.specs.Protocol.{Start, start_nodes, entries_of};
 ghost use Rattle.mn_callers.specs.declared.desk.TheConstants.{ENTRIES_AHEAD};
 ghost use Rattle.mn_callers.specs.Clients.{last_shared};
 ghost use Rattle.mn_callers.specs.Closing.{calls_of};
@@ -21,9 +20,10 @@ ghost use Rattle.mn_callers.specs.Steps.{Adds, KeepsList};
 use crate::transport::Transport;
 use mn_actors::Pass;
 use mn_base::{ClientNo, NoMemory, NodeNo, Tid};
+use mn_law::CoreLaw;
 use mn_mini::{NodeReply, Request};
 use mn_recov::{RecovStep, Recoverer};
-use mn_world::{ClientList, CoreLaw};
+use mn_runs::ClientList;
 use std::alloc::Global;
 
 /// The most entries of a recovery from a vote on: that one, and a decision for each participant.

@@ -6,9 +6,8 @@ ghost use Rattle.std.specs.Prelude.{OnOk, vec_len, vec_capacity};
 ghost use Rattle.mn_actors.specs.Lists.{OwnsAll};
 ghost use Rattle.mn_actors.specs.Sight.{board_of, clients_of, id_of, nodes_of, view_of};
 ghost use Rattle.mn_node.specs.State.{NodeState};
-ghost use Rattle.mn_world.specs.declared.entry.Entry.{Entry as Noted};
-ghost use Rattle.mn_world.specs.Protocol.{start_of};
-ghost use Rattle.mn_world.specs.Run.{entries_of};
+ghost use Rattle.mn_runs.specs.declared.entry.Entry.{Entry as Noted};
+ghost use Rattle.mn_runs.specs.Protocol.{start_of, entries_of};
 ghost use Rattle.mn_callers.specs.Causes.{IsCaused};
 ghost use Rattle.mn_callers.specs.Ended.{AllHaveMade, AreLists, AreMadeFromLast};
 ghost use Rattle.mn_callers.specs.Ended.{HoldsNodes, IsEnded, OwnsNodes, SameCallers};
@@ -27,11 +26,13 @@ use crate::table::Table;
 use mn_actors::{Board, Pass};
 use mn_base::{ClientNo, NoMemory};
 use mn_cell::{Named, RunCause, RunFailed, Station, Trace, parts_make_run};
+use mn_commits::records_stay_sound;
 use mn_hist::{ClientLists, merge};
 use mn_io::Disk;
+use mn_law::{CoreLaw, runs_follow_protocol};
 use mn_node::Node;
+use mn_runs::{ClientList, Log};
 use mn_script::Script;
-use mn_world::{ClientList, CoreLaw, Log, records_stay_sound, runs_follow_protocol};
 use std::alloc::Global;
 
 /// Room for the lists of all callers, taken before a run begins. NoMemory: there was none.

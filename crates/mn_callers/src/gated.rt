@@ -2,9 +2,10 @@
 use crate::transport::Transport;
 use mn_actors::Pass;
 use mn_base::{Gate, NodeNo, StopAt};
+use mn_law::CoreLaw;
 use mn_mini::{NodeReply, Request};
 use mn_node::RestartError;
-use mn_world::{ClientList, CoreLaw, What};
+use mn_runs::{ClientList, What};
 use std::alloc::Global;
 
 /// A transport with a gate before and behind each call of a node.

@@ -3,8 +3,8 @@ ghost use Rattle.std.specs.Prelude.{◌≡◌, ℕ, List, vec_capacity};
 ghost use Rattle.mn_actors.specs.Sight.{view_of};
 ghost use Rattle.mn_base.specs.declared.ids.ClientNo.{ClientNo};
 ghost use Rattle.mn_cell.specs.Hearing.{StationsStay};
-ghost use Rattle.mn_world.specs.declared.entry.Entry.{Entry};
-ghost use Rattle.mn_world.specs.Protocol.{start_of};
+ghost use Rattle.mn_runs.specs.declared.entry.Entry.{Entry};
+ghost use Rattle.mn_runs.specs.Protocol.{start_of};
 ghost use Rattle.mn_callers.specs.Hearing.{GoesOnFrom, HaveGrown};
 ghost use Rattle.mn_callers.specs.Logs.{HasLog};
 ghost use Rattle.mn_callers.specs.Plays.{HasTrail, IsAtRest, PlayState, state_at};
@@ -14,7 +14,7 @@ use crate::table::Table;
 use mn_actors::Pass;
 use mn_cell::{Named, hear_all};
 use mn_io::Disk;
-use mn_world::CoreLaw;
+use mn_law::CoreLaw;
 
 impl<N: Named, D: Disk> Table<N, D> {
     /// Looks at the clock for all callers and nodes: what they have is one log, which `rest` then

@@ -3,14 +3,14 @@ ghost use Rattle.std.specs.Prelude.{◌≡◌, ◌≤◌, ◌∷◌, [], None, i
 ghost use Rattle.std.specs.List.{AllByRecursion, list_any};
 ghost use Rattle.mn_hist.specs.Points.{point_fits, may_stop, votes_for, votes_with, with_met};
 ghost use Rattle.mn_hist.specs.Watching.{number_of};
-ghost use Rattle.mn_world.specs.Run.{entries_of};
+ghost use Rattle.mn_runs.specs.Protocol.{entries_of};
 ghost use Rattle.mn_callers.specs.Points.{is_kill_of, is_some_met, is_stop_at, stop_among};
 
 use mn_base::{ClientNo, NodeNo, StopAt, Tid};
 use mn_hist::{Step, asked_in, may_stop, meet, voted_id};
 use mn_mini::Request;
+use mn_runs::{Entry, What};
 use mn_script::Point;
-use mn_world::{Entry, What};
 
 /// Whether the point kills the client.
 fn is_kill_of(client: ClientNo, point: &Point) -> bool

@@ -10,9 +10,8 @@ ghost use Rattle.mn_mini.specs.RecordGrammar.{IsTid};
 ghost use Rattle.mn_mini.specs.Sound.{Fits, IsDoubt, IsSoundRequest};
 ghost use Rattle.mn_recov.specs.Recovery.{step_of};
 ghost use Rattle.mn_recov.specs.declared.step.RecovStep.TheVariants.{Send};
-ghost use Rattle.mn_world.specs.Clients.{Sends};
-ghost use Rattle.mn_world.specs.Protocol.{base_at, start_of};
-ghost use Rattle.mn_world.specs.Run.{entries_of};
+ghost use Rattle.mn_runs.specs.Clients.{Sends};
+ghost use Rattle.mn_runs.specs.Protocol.{base_at, start_of, entries_of};
 ghost use Rattle.mn_callers.specs.Begins.{AreBare};
 ghost use Rattle.mn_callers.specs.Causes.{IsCaused, cause_of};
 ghost use Rattle.mn_callers.specs.Closing.{AllExtend, AreHeldIn, AreInOrder, IsClosing, IsDone};
@@ -31,10 +30,11 @@ use mn_actors::Pass;
 use mn_base::{ClientNo, NoMemory, NodeNo, Tid};
 use mn_cell::{Named, RunCause};
 use mn_io::Disk;
+use mn_law::CoreLaw;
 use mn_mini::{Doubts, NodeReply, Request};
 use mn_node::RestartError;
 use mn_recov::{RecovStep, Recoverer};
-use mn_world::{ClientList, CoreLaw};
+use mn_runs::ClientList;
 use std::alloc::Global;
 
 /// Why the run fails where a node wasn't restarted.

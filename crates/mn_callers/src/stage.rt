@@ -1,8 +1,7 @@
 //! A run whose callers act in turns.
 ghost use Rattle.std.specs.Prelude.{◌≡◌, ◌<◌, ◌^◌, List, length, IfErr, OnOk};
-ghost use Rattle.mn_world.specs.declared.entry.Entry.{Entry};
-ghost use Rattle.mn_world.specs.OneHistory.{AreUp};
-ghost use Rattle.mn_world.specs.Protocol.{start_of};
+ghost use Rattle.mn_runs.specs.declared.entry.Entry.{Entry};
+ghost use Rattle.mn_runs.specs.Protocol.{AreUp, start_of};
 ghost use Rattle.mn_callers.specs.Acts.{as_role, role_of};
 ghost use Rattle.mn_callers.specs.Begins.{AreBare};
 ghost use Rattle.mn_callers.specs.Causes.{IsCaused};
@@ -26,8 +25,8 @@ use mn_actors::{Actor, Pass};
 use mn_base::{ClientNo, Gate, NoMemory, SharedOp};
 use mn_cell::{Named, RunCause};
 use mn_io::Disk;
+use mn_law::CoreLaw;
 use mn_script::{Point, Script};
-use mn_world::CoreLaw;
 use std::alloc::Global;
 
 /// A run of a script that is under way: `rest` owns the callers that have no turn. A turn begins

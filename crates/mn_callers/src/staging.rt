@@ -12,8 +12,8 @@ use mn_actors::{Actor, Board, Pass};
 use mn_base::{NoMemory, NodeNo};
 use mn_cell::{Named, Refused, Station};
 use mn_io::Disk;
+use mn_law::CoreLaw;
 use mn_node::Node;
-use mn_world::CoreLaw;
 use std::alloc::Global;
 
 /// The stations of the nodes, in order; `all` loses their actors. Where there is no memory the

@@ -2,8 +2,7 @@
 ghost use Rattle.std.specs.Prelude.{◌≡◌, ◌<◌, None, IfOk, OnOk};
 ghost use Rattle.std.specs.List.{AllByRecursion};
 ghost use Rattle.mn_mini.specs.RecordGrammar.{IsTid};
-ghost use Rattle.mn_world.specs.Protocol.{start_nodes};
-ghost use Rattle.mn_world.specs.Run.{entries_of};
+ghost use Rattle.mn_runs.specs.Protocol.{start_nodes, entries_of};
 ghost use Rattle.mn_callers.specs.Closing.{AreInOrder};
 ghost use Rattle.mn_callers.specs.Desks.{IsDesk, RecoversOn};
 ghost use Rattle.mn_callers.specs.Hands.{HasTurn, MovesOn, hand_of};
@@ -13,8 +12,8 @@ use crate::settle::{add_ids, sort_ids};
 use crate::transport::Transport;
 use mn_actors::Pass;
 use mn_base::{NoMemory, NodeNo, Tid};
+use mn_law::CoreLaw;
 use mn_mini::{NodeReply, Request};
-use mn_world::CoreLaw;
 use std::alloc::Global;
 
 impl Desk {

@@ -4,7 +4,7 @@ ghost use Rattle.std.specs.Prelude.{length, true, false};
 ghost use Rattle.mn_cell.specs.Calls.{ObeysStop, MaySend, entry_at, what_said};
 ghost use Rattle.mn_cell.specs.Promises.{IsOwedAt, decided_by};
 ghost use Rattle.mn_mini.specs.Sound.{Fits, IsSoundRequest};
-ghost use Rattle.mn_world.specs.Run.{entries_of};
+ghost use Rattle.mn_runs.specs.Protocol.{entries_of, base_at, start_of};
 ghost use Rattle.mn_callers.specs.Turn.{ExtendsLog, IsTurn, turn_at};
 ghost use Rattle.mn_callers.specs.Steps.{Adds, KeepsList};
 ghost use Rattle.mn_callers.specs.Causes.{IsCaused, cause_of};
@@ -12,7 +12,6 @@ ghost use Rattle.mn_callers.specs.Doings.{Halts, HasAnswered, IsAnswer, IsDownAs
 ghost use Rattle.mn_callers.specs.Doings.{Restarts};
 ghost use Rattle.mn_callers.specs.Ended.{AllHaveMade};
 ghost use Rattle.mn_callers.specs.Failed.{closer};
-ghost use Rattle.mn_world.specs.Protocol.{base_at, start_of};
 ghost use Rattle.mn_cell.specs.declared.trace.RunCause.{RunCause};
 
 use crate::transport::{Transport, put_alone};
@@ -20,9 +19,10 @@ use mn_actors::{Board, Pass};
 use mn_base::{NoMemory, NodeNo, StopAt};
 use mn_cell::{Named, Station};
 use mn_io::Disk;
+use mn_law::CoreLaw;
 use mn_mini::{NodeReply, Request};
 use mn_node::RestartError;
-use mn_world::{ClientList, CoreLaw, What};
+use mn_runs::{ClientList, What};
 use std::alloc::Global;
 
 /// The board of a run and the stations of its nodes, from number 0 on.
@@ -146,7 +146,7 @@ impl<N: Named, D: Disk> Table<N, D> {
 
 impl<N: Named, D: Disk> Transport for Table<N, D> {
     ghost use Rattle.std.specs.Prelude.{length};
-    ghost use Rattle.mn_world.specs.Protocol.{start_of};
+    ghost use Rattle.mn_runs.specs.Protocol.{start_of};
     ghost use Rattle.mn_callers.specs.Turn.{IsTable, StationsWent, seen_of};
     ghost use Rattle.mn_callers.specs.Stationed.{stations_go_on, stations_stay};
 

@@ -4,24 +4,25 @@ ghost use Rattle.mn_actors.specs.Sight.{id_of};
 ghost use Rattle.mn_cell.specs.Calls.{ObeysStop, MaySend, entry_at, what_said};
 ghost use Rattle.mn_cell.specs.Promises.{IsOwedAt, decided_by};
 ghost use Rattle.mn_mini.specs.Sound.{Fits, IsSoundRequest};
-ghost use Rattle.mn_world.specs.Protocol.{start_nodes};
-ghost use Rattle.mn_world.specs.Run.{IsLegalBy, entries_of};
+ghost use Rattle.mn_runs.specs.Protocol.{start_nodes, entries_of};
+ghost use Rattle.mn_law.specs.Run.{IsLegalBy};
 ghost use Rattle.mn_callers.specs.Hands.{HasTurn, IsOwnStep, MovesOn, hand_of};
 ghost use Rattle.mn_callers.specs.Steps.{Adds, MayRestart, own_entry};
 
 use mn_actors::{Board, Pass};
 use mn_base::{NodeNo, StopAt};
+use mn_law::CoreLaw;
 use mn_mini::{NodeReply, Request};
 use mn_node::RestartError;
-use mn_world::{ClientList, CoreLaw, Entry, What};
+use mn_runs::{ClientList, Entry, What};
 use std::alloc::Global;
 
 /// The board of a run and its nodes, as an actor reaches them: on one thread, or behind locks.
 pub trait Transport {
     ghost use Rattle.std.specs.Prelude.{ℕ, List, [], ◌++◌};
     ghost use Rattle.atomic_table.specs.Seated.{TableId};
-    ghost use Rattle.mn_world.specs.declared.entry.Entry.{Entry as Noted};
-    ghost use Rattle.mn_world.specs.Protocol.{Start};
+    ghost use Rattle.mn_runs.specs.declared.entry.Entry.{Entry as Noted};
+    ghost use Rattle.mn_runs.specs.Protocol.{Start};
 
     // The board of the run.
     ghost board: { TableId };

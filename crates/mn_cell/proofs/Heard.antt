@@ -15,7 +15,7 @@ use Rattle.mn_actors.specs.Lines.{same_actor}
 use Rattle.mn_actors.specs.Lists.{held, or_else, IsJoined, IsSameLists, IsSplit}
 use Rattle.mn_actors.specs.Look.{KnowsAll}
 use Rattle.mn_actors.specs.Rule.{list_of}
-use Rattle.mn_world.specs.declared.entry.Entry.{Entry}
+use Rattle.mn_runs.specs.declared.entry.Entry.{Entry}
 use Rattle.mn_cell.specs.Calls.{IsLegalLine}
 use Rattle.mn_cell.specs.Filled.{AreNumbered}
 use Rattle.mn_cell.specs.Hearing.{HasOneLog, StationsStay, StaysStation}

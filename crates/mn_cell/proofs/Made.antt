@@ -29,12 +29,12 @@ use Rattle.mn_node.specs.declared.restart.RestartError.TheVariants.{Fault, Damag
 use Rattle.mn_node.proofs.Found.{size_of}
 use Rattle.mn_node.proofs.Steps.{one_body_more}
 use Rattle.mn_node.proofs.Apart.{turned}
-use Rattle.mn_world.specs.declared.entry.Entry.{Entry}
-use Rattle.mn_world.specs.declared.entry.What.{What}
-use Rattle.mn_world.specs.declared.entry.What.TheVariants.{Begin, Issue, Called, Stopped, Restarted, Abandoned, Answered}
-use Rattle.mn_world.specs.Nodes.{NodeAllows, added_by, is_down, node_records, stopped_request}
-use Rattle.mn_world.specs.Protocol.{Start, base_at, start_nodes, start_records, start_of}
-use Rattle.mn_world.proofs.Bytes.Bases.{base_there}
+use Rattle.mn_runs.specs.declared.entry.Entry.{Entry}
+use Rattle.mn_runs.specs.declared.entry.What.{What}
+use Rattle.mn_runs.specs.declared.entry.What.TheVariants.{Begin, Issue, Called, Stopped, Restarted, Abandoned, Answered}
+use Rattle.mn_runs.specs.Nodes.{NodeAllows, added_by, is_down, node_records, stopped_request}
+use Rattle.mn_runs.specs.Protocol.{Start, base_at, start_nodes, start_records, start_of}
+use Rattle.mn_runs.proofs.Bases.{base_there}
 use Rattle.mn_cell.specs.Calls.{AddsNoRecord, IsLarge, IsUndamaged, ObeysStop, entry_at, lengths_by, read_lengths, what_said}
 use Rattle.mn_cell.specs.Station.{HasMadeEntries, IsNodeAtStart, IsRecordKeptAsAsked, StepKeepsRecordAsAsked, RestartsKeepRecordsAsAsked, RoseBy, DiskStandsAsAsked, StopsWhereItWouldAdd, asked_or, last_asked, unasked, unasked_in}
 

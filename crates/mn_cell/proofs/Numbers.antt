@@ -4,7 +4,7 @@ use Rattle.mn_base.specs.declared.gate.StopAt.{StopAt}
 use Rattle.mn_base.specs.declared.ids.NodeNo.{NodeNo}
 use Rattle.mn_base.specs.declared.ids.ClientNo.{ClientNo}
 use Rattle.mn_mini.specs.declared.request.Request.{Request}
-use Rattle.mn_world.specs.declared.entry.Entry.{Entry}
+use Rattle.mn_runs.specs.declared.entry.Entry.{Entry}
 use Rattle.mn_cell.specs.Calls.{MaySend, numbered}
 
 pub sent_to : (n : NodeNo) (k : ℕ) → n.0 ≡ k → (c : ClientNo) (list : List (ℕ × Entry)) (request : Request) (stop : Option StopAt) → MaySend n c list request stop → MaySend (numbered k) c list request stop

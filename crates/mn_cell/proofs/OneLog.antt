@@ -8,9 +8,9 @@ use Rattle.mn_base.specs.declared.ids.Tid.{Tid}
 use Rattle.mn_actors.specs.declared.actor.Actor.TheVariants.{Node, Client}
 use Rattle.mn_actors.specs.Lines.{Line, is_client, is_node, stands_in}
 use Rattle.mn_actors.specs.Rule.{IsLegalLog, grown, list_of}
-use Rattle.mn_world.specs.declared.entry.Entry.{Entry}
-use Rattle.mn_world.specs.Calls.{is_at, is_by}
-use Rattle.mn_world.specs.Run.{entries_of}
+use Rattle.mn_runs.specs.declared.entry.Entry.{Entry}
+use Rattle.mn_runs.specs.Calls.{is_at, is_by}
+use Rattle.mn_runs.specs.Protocol.{entries_of}
 use Rattle.mn_cell.specs.Calls.{IsLegalLine}
 use Rattle.mn_cell.specs.Passes.{AreOfOneLog}
 use Rattle.mn_cell.specs.Promises.{IsOwed, IsOwedAt, is_owed, is_owed_at, owed_by}

@@ -12,10 +12,10 @@ use Rattle.mn_base.proofs.Booleans.{or_left, or_right}
 use Rattle.mn_mini.specs.declared.request.Request.{Request}
 use Rattle.mn_mini.specs.declared.request.Request.TheVariants as Ask
 use Rattle.mn_mini.specs.declared.reply.NodeReply.{NodeReply}
-use Rattle.mn_world.specs.declared.entry.Entry.{Entry}
-use Rattle.mn_world.specs.declared.entry.What.{What}
-use Rattle.mn_world.specs.declared.entry.What.TheVariants.{Begin, Issue, Called, Stopped, Restarted, Abandoned, Answered}
-use Rattle.mn_world.specs.Run.{entries_of}
+use Rattle.mn_runs.specs.declared.entry.Entry.{Entry}
+use Rattle.mn_runs.specs.declared.entry.What.{What}
+use Rattle.mn_runs.specs.declared.entry.What.TheVariants.{Begin, Issue, Called, Stopped, Restarted, Abandoned, Answered}
+use Rattle.mn_runs.specs.Protocol.{entries_of}
 use Rattle.mn_cell.specs.declared.owing.Owed.{Owed}
 use Rattle.mn_cell.specs.Promises.{is_owed_to, owes, owed_without, is_owed, owed_after, is_id, voted_in, decided_in, voted_by, decided_by, IsOwed, IsOwing, OwesTo}
 

@@ -13,14 +13,14 @@ use Rattle.mn_actors.specs.declared.actor.Actor.{Actor}
 use Rattle.mn_actors.specs.declared.actor.Actor.TheVariants.{Node, Client}
 use Rattle.mn_actors.specs.Lines.{Line, is_client, is_node, stands_in}
 use Rattle.mn_actors.specs.Log.{IsManned, IsOneLog, entries_from, client_entries as client_lines, node_entries as node_lines}
-use Rattle.mn_world.specs.declared.entry.Entry.{Entry}
-use Rattle.mn_world.specs.declared.entry.What.{What}
-use Rattle.mn_world.specs.declared.entry.What.TheVariants.{Begin, Issue, Called, Stopped, Restarted, Abandoned, Answered}
-use Rattle.mn_world.specs.Calls.{client_entries, is_at, is_by, node_entries}
-use Rattle.mn_world.specs.Laws.{NodeListAllowed}
-use Rattle.mn_world.specs.Protocol.{AllowedAt, AllowedBy, IsNodeStep, IsOfRun, Start}
-use Rattle.mn_world.specs.Run.{HasNode, IsCallersStep, IsLegalStep, IsRun, Means, entries_of}
-use Rattle.mn_world.proofs.Reading.Same.{client_same-refl}
+use Rattle.mn_runs.specs.declared.entry.Entry.{Entry}
+use Rattle.mn_runs.specs.declared.entry.What.{What}
+use Rattle.mn_runs.specs.declared.entry.What.TheVariants.{Begin, Issue, Called, Stopped, Restarted, Abandoned, Answered}
+use Rattle.mn_runs.specs.Calls.{client_entries, is_at, is_by, node_entries}
+use Rattle.mn_runs.specs.Protocol.{NodeListAllowed}
+use Rattle.mn_runs.specs.Protocol.{AllowedAt, AllowedBy, IsNodeStep, IsOfRun, Start, entries_of}
+use Rattle.mn_law.specs.Run.{HasNode, IsCallersStep, IsLegalStep, IsRun, Means}
+use Rattle.mn_runs.proofs.Same.{client_same-refl}
 use Rattle.mn_cell.specs.Calls.{IsLegalLine}
 use Rattle.mn_cell.specs.Runs.{ArePartsOfRun, IsIssueOf, PartsMakeRun, placed_from}
 

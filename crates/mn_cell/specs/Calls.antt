@@ -14,10 +14,11 @@ use Rattle.mn_mini.specs.Mini.{has_write}
 use Rattle.mn_node.specs.declared.restart.RestartError.{RestartError}
 use Rattle.mn_node.specs.declared.restart.RestartError.TheVariants.{Fault, Damaged, NoMemory}
 use Rattle.mn_actors.specs.Lines.{Line}
-use Rattle.mn_world.specs.declared.entry.Entry.{Entry}
-use Rattle.mn_world.specs.declared.entry.What.{What}
-use Rattle.mn_world.specs.declared.entry.What.TheVariants.{Called, Stopped}
-use Rattle.mn_world.specs.Run.{entries_of, IsLegalBy}
+use Rattle.mn_runs.specs.declared.entry.Entry.{Entry}
+use Rattle.mn_runs.specs.declared.entry.What.{What}
+use Rattle.mn_runs.specs.declared.entry.What.TheVariants.{Called, Stopped}
+use Rattle.mn_runs.specs.Protocol.{entries_of}
+use Rattle.mn_law.specs.Run.{IsLegalBy}
 
 -- the node of this number
 abbrev pub numbered : ℕ → NodeNo

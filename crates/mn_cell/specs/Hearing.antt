@@ -7,7 +7,7 @@ use Rattle.mn_actors.specs.declared.clock.View.{View}
 use Rattle.mn_actors.specs.Lines.{Line}
 use Rattle.mn_actors.specs.Lists.{held}
 use Rattle.mn_actors.specs.Rule.{IsLegalLog, list_of}
-use Rattle.mn_world.specs.declared.entry.Entry.{Entry}
+use Rattle.mn_runs.specs.declared.entry.Entry.{Entry}
 use Rattle.mn_cell.specs.Calls.{IsLegalLine}
 use Rattle.mn_cell.specs.Station.{StationState}
 

@@ -7,10 +7,9 @@ use Rattle.mn_actors.specs.declared.actor.Actor.{Actor}
 use Rattle.mn_actors.specs.declared.actor.Actor.TheVariants.{Node, Client}
 use Rattle.mn_actors.specs.Lines.{Line}
 use Rattle.mn_actors.specs.Log.{IsOneLog}
-use Rattle.mn_world.specs.declared.entry.Entry.{Entry}
-use Rattle.mn_world.specs.Laws.{NodeListAllowed}
-use Rattle.mn_world.specs.Protocol.{Start, IsOfRun, start_nodes}
-use Rattle.mn_world.specs.Run.{IsLogOfRun, entries_of}
+use Rattle.mn_runs.specs.declared.entry.Entry.{Entry}
+use Rattle.mn_runs.specs.Protocol.{NodeListAllowed, Start, IsOfRun, start_nodes, entries_of}
+use Rattle.mn_law.specs.Run.{IsLogOfRun}
 use Rattle.mn_cell.specs.Calls.{IsLegalLine}
 
 -- where the entry is an issue, it is one of the run

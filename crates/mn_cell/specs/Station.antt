@@ -17,12 +17,11 @@ use Rattle.mn_actors.specs.declared.board.Pass.{Pass}
 use Rattle.mn_actors.specs.declared.actor.Actor.TheVariants.{Node}
 use Rattle.mn_actors.specs.Lists.{held, or_empty}
 use Rattle.mn_actors.specs.Sight.{board_of, view_of}
-use Rattle.mn_world.specs.declared.entry.Entry.{Entry}
-use Rattle.mn_world.specs.declared.entry.What.{What}
-use Rattle.mn_world.specs.declared.entry.What.TheVariants.{Restarted, Stopped}
-use Rattle.mn_world.specs.Nodes.{added_by, is_down, node_records, stopped_request}
-use Rattle.mn_world.specs.Protocol.{Start, base_at, start_nodes, start_records}
-use Rattle.mn_world.specs.Laws.{NodeListAllowed}
+use Rattle.mn_runs.specs.declared.entry.Entry.{Entry}
+use Rattle.mn_runs.specs.declared.entry.What.{What}
+use Rattle.mn_runs.specs.declared.entry.What.TheVariants.{Restarted, Stopped}
+use Rattle.mn_runs.specs.Nodes.{added_by, is_down, node_records, stopped_request}
+use Rattle.mn_runs.specs.Protocol.{Start, base_at, start_nodes, start_records, NodeListAllowed}
 use Rattle.mn_cell.specs.Passes.{OwnsJust}
 
 -- a board that is none

@@ -8,7 +8,7 @@ ghost use Rattle.mn_cell.specs.Promises.{decided_by};
 
 use mn_base::{NoMemory, StopAt, TryCopy};
 use mn_mini::{NodeReply, OwnBytes, PartItem, ReadBytes, Reads, Request};
-use mn_world::What;
+use mn_runs::What;
 use std::alloc::Global;
 use std::marker::Model;
 

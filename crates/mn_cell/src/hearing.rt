@@ -11,7 +11,7 @@ use crate::named::Named;
 use crate::station::Station;
 use mn_actors::{Actor, Board, Pass};
 use mn_io::Disk;
-use mn_world::CoreLaw;
+use mn_law::CoreLaw;
 
 /// Looks at the clock for the actors that the pass and the stations own together: their lists are
 /// those of one log. The pass then knows how many entries that has. The stations stay, but for the

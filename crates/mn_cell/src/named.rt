@@ -7,7 +7,7 @@ pub trait Named {
     ghost use Rattle.std.specs.Prelude.{ℕ, List, ◌≡◌};
     ghost use Rattle.atomic_table.specs.Seated.{TableId};
     ghost use Rattle.mn_mini.specs.declared.record.Record.{Record};
-    ghost use Rattle.mn_world.specs.Protocol.{run_number, start_of};
+    ghost use Rattle.mn_runs.specs.Protocol.{run_number, start_of};
 
     // The board on which its entries are put.
     ghost board: { TableId };

@@ -2,14 +2,14 @@
 //! is, and the decisions that it is owed.
 ghost use Rattle.std.specs.Prelude.{◌≡◌, ◌≤◌, ◌<◌, ◌+◌, ◌^◌, ◌⊎◌, ◌++◌, ◌∷◌, [], ℕ, List, Some};
 ghost use Rattle.std.specs.Prelude.{true, false, IfOk, OnOk, OnErr, vec_len, vec_capacity};
-ghost use Rattle.mn_world.specs.declared.entry.Entry.{Entry as Step};
+ghost use Rattle.mn_runs.specs.declared.entry.Entry.{Entry as Step};
 ghost use Rattle.mn_cell.specs.Promises.{HasRoomForStep, IsOwing, OwesTo, decided_by, decided_in};
 ghost use Rattle.mn_cell.specs.Promises.{is_owed_to, owed_after, owes, voted_by, voted_in};
 ghost use Rattle.mn_cell.specs.Promises.{owed_without};
 
 use mn_base::{ClientNo, NoMemory, Tid};
 use mn_mini::{NodeReply, Request};
-use mn_world::{Entry, What};
+use mn_runs::{Entry, What};
 use std::alloc::Global;
 use std::marker::Model;
 

@@ -3,18 +3,17 @@ ghost use Rattle.std.specs.Prelude.{◌≡◌, [], Some, IfOk, IfErr};
 ghost use Rattle.mn_actors.specs.declared.actor.Actor.TheVariants.{Node as AtNode};
 ghost use Rattle.mn_actors.specs.Lists.{held};
 ghost use Rattle.mn_actors.specs.Sight.{board_of, view_of};
-ghost use Rattle.mn_world.specs.Run.{entries_of};
+ghost use Rattle.mn_runs.specs.Protocol.{entries_of, start_of};
 ghost use Rattle.mn_cell.specs.Passes.{OwnsJust};
 ghost use Rattle.mn_cell.specs.Station.{HasMadeEntries, IsNodeAtStart};
-ghost use Rattle.mn_world.specs.Protocol.{start_of};
 
 use crate::named::Named;
 use crate::owing::Owing;
 use mn_actors::Pass;
 use mn_base::NodeNo;
 use mn_io::Disk;
+use mn_law::CoreLaw;
 use mn_node::Node;
-use mn_world::CoreLaw;
 use std::alloc::Global;
 use std::marker::{Model, PhantomData};
 
@@ -36,8 +35,7 @@ pub struct Station<N: Named, D: Disk> {
 }
 
 impl<N: Named, D: Disk> Model for Station<N, D> {
-    ghost use Rattle.mn_world.specs.Protocol.{start_of};
-    ghost use Rattle.mn_world.specs.Run.{entries_of};
+    ghost use Rattle.mn_runs.specs.Protocol.{start_of, entries_of};
     ghost use Rattle.mn_cell.specs.Promises.{IsOwing};
     ghost use Rattle.mn_cell.specs.Station.{HasMadeEntries, IsPassOf, StationState, known_by};
     ghost use Rattle.mn_cell.specs.Station.{list_by};

@@ -3,7 +3,7 @@ use mn_base::NodeNo;
 use mn_io::Disk;
 use mn_mini::Record;
 use mn_node::Node;
-use mn_world::Log;
+use mn_runs::Log;
 
 /// A run that was closed: its nodes, from number 0 on, and its whole log.
 #[derive(Drop)]

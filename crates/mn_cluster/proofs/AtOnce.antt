@@ -16,10 +16,9 @@ use Rattle.mn_cell.specs.Runs.{IsIssueOf}
 use Rattle.mn_script.specs.declared.elements.Mark.TheVariants.{Plain}
 use Rattle.mn_script.specs.declared.elements.ScriptClient.{ScriptClient}
 use Rattle.mn_script.specs.Script.{Script}
-use Rattle.mn_world.specs.declared.entry.Entry.{Entry}
-use Rattle.mn_world.specs.Calls.{client_entries}
-use Rattle.mn_world.specs.Protocol.{Start, start_nodes}
-use Rattle.mn_world.specs.Run.{entries_of}
+use Rattle.mn_runs.specs.declared.entry.Entry.{Entry}
+use Rattle.mn_runs.specs.Calls.{client_entries}
+use Rattle.mn_runs.specs.Protocol.{Start, start_nodes, entries_of}
 use Rattle.mn_callers.specs.declared.callers.Callers.{Callers}
 use Rattle.mn_callers.specs.declared.client.Client.{Client as OneClient}
 use Rattle.mn_callers.specs.declared.desk.Desk.{Desk}

@@ -9,14 +9,13 @@ use Rattle.mn_actors.specs.declared.actor.Actor.TheVariants as actors
 use Rattle.mn_actors.specs.declared.clock.View.{View}
 use Rattle.mn_actors.specs.Lists.{held, or_else}
 use Rattle.mn_base.specs.declared.ids.ClientNo.{ClientNo}
-use Rattle.mn_world.specs.declared.entry.Entry.{Entry}
+use Rattle.mn_runs.specs.declared.entry.Entry.{Entry}
 use Rattle.mn_callers.specs.declared.callers.Callers.{Callers}
 use Rattle.mn_callers.specs.declared.client.Client.{Client as OneClient}
 use Rattle.mn_callers.specs.declared.desk.Desk.{Desk}
 use Rattle.mn_cell.specs.Runs.{IsIssueOf}
 use Rattle.mn_script.specs.Script.{Script}
-use Rattle.mn_world.specs.Protocol.{Start}
-use Rattle.mn_world.specs.Run.{entries_of}
+use Rattle.mn_runs.specs.Protocol.{Start, entries_of}
 use Rattle.mn_callers.specs.Plays.{AreCallers, HaveNumbers, caller_at, list_by}
 use Rattle.mn_callers.specs.Turn.{callers_count}
 use Rattle.std.specs.List.{AllByRecursion}

@@ -11,10 +11,9 @@ use Rattle.mn_base.specs.declared.ids.ClientNo.{ClientNo}
 use Rattle.mn_base.proofs.Lists.{all_append, weaker}
 use Rattle.mn_script.specs.Script.{Script}
 use Rattle.mn_script.specs.declared.elements.Mark.TheVariants.{Plain}
-use Rattle.mn_world.specs.declared.entry.Entry.{Entry}
-use Rattle.mn_world.specs.Protocol.{Start}
-use Rattle.mn_world.specs.Run.{entries_of}
-use Rattle.mn_world.proofs.Reading.Same.{client_same-true}
+use Rattle.mn_runs.specs.declared.entry.Entry.{Entry}
+use Rattle.mn_runs.specs.Protocol.{Start, entries_of}
+use Rattle.mn_runs.proofs.Same.{client_same-true}
 use Rattle.mn_callers.specs.Desks.{IsRecoveryStep, RecoversOn, recoverer}
 use Rattle.mn_callers.specs.Plays.{caller_at}
 use Rattle.mn_callers.specs.Turn.{past_in}

@@ -9,8 +9,8 @@ use Rattle.mn_base.specs.Ids.{client_same}
 use Rattle.mn_base.specs.declared.ids.ClientNo.{ClientNo}
 use Rattle.mn_base.specs.declared.ids.NodeNo.{NodeNo}
 use Rattle.mn_cell.specs.Passes.{OwnsJust}
-use Rattle.mn_world.specs.declared.entry.Entry.{Entry}
-use Rattle.mn_world.proofs.Reading.Same.{client_same-true}
+use Rattle.mn_runs.specs.declared.entry.Entry.{Entry}
+use Rattle.mn_runs.proofs.Same.{client_same-true}
 use Rattle.mn_callers.specs.Plays.{caller_at}
 use Rattle.mn_cluster.specs.declared.worker.Role.{Role}
 use Rattle.mn_cluster.specs.Hired.{AreInOrder, IsWithout, clients_in, desks_in, list_in, unless}

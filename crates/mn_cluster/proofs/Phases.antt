@@ -6,11 +6,10 @@ use Rattle.std.proofs.lemmas.List.{append-nil, map-id}
 use Rattle.mn_script.specs.declared.elements.Mark.{Mark}
 use Rattle.mn_script.specs.declared.elements.Mark.TheVariants.{First, Last}
 use Rattle.mn_script.specs.Script.{Script}
-use Rattle.mn_world.specs.declared.entry.Entry.{Entry}
-use Rattle.mn_world.specs.Laws.{RecordsStaySound}
-use Rattle.mn_world.specs.OneHistory.{AreUp}
-use Rattle.mn_world.specs.Protocol.{Start}
-use Rattle.mn_world.specs.Run.{IsRun, RunsFollowProtocol}
+use Rattle.mn_runs.specs.declared.entry.Entry.{Entry}
+use Rattle.mn_commits.specs.Laws.{RecordsStaySound}
+use Rattle.mn_runs.specs.Protocol.{AreUp, Start}
+use Rattle.mn_law.specs.Run.{IsRun, RunsFollowProtocol}
 use Rattle.mn_callers.proofs.Played.{Grows, free_in, goes_as_both, grows_both}
 use Rattle.mn_callers.specs.Acts.{DoesAll, role_of}
 use Rattle.mn_callers.specs.Closing.{AreOfCloser}

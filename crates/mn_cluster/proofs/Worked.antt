@@ -11,8 +11,8 @@ use Rattle.mn_base.specs.Ids.{client_same}
 use Rattle.mn_base.specs.declared.ids.ClientNo.{ClientNo}
 use Rattle.mn_base.specs.declared.error.NoMemory.{NoMemory}
 use Rattle.mn_script.specs.Script.{Script}
-use Rattle.mn_world.specs.Protocol.{Start}
-use Rattle.mn_world.proofs.Reading.Same.{client_same-refl}
+use Rattle.mn_runs.specs.Protocol.{Start}
+use Rattle.mn_runs.proofs.Same.{client_same-refl}
 use Rattle.mn_callers.specs.declared.client.Client.{Client as OneClient}
 use Rattle.mn_callers.specs.declared.desk.Desk.{Desk}
 use Rattle.mn_callers.specs.Plays.{caller_at}

@@ -13,10 +13,9 @@ use Rattle.mn_cluster.specs.Marks.{is_marked}
 use Rattle.mn_script.specs.declared.elements.Mark.{Mark}
 use Rattle.mn_script.specs.declared.elements.Mark.TheVariants.{Plain, First, Last}
 use Rattle.mn_script.specs.Script.{Script}
-use Rattle.mn_world.specs.declared.entry.Entry.{Entry}
-use Rattle.mn_world.specs.Calls.{client_entries}
-use Rattle.mn_world.specs.OneHistory.{AreFree, AreUp}
-use Rattle.mn_world.specs.Protocol.{Start}
+use Rattle.mn_runs.specs.declared.entry.Entry.{Entry}
+use Rattle.mn_runs.specs.Calls.{client_entries}
+use Rattle.mn_runs.specs.Protocol.{AreFree, AreUp, Start}
 
 -- One after another
 

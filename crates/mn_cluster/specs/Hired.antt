@@ -19,7 +19,7 @@ use Rattle.mn_cluster.specs.declared.worker.Role.{Role}
 use Rattle.mn_cluster.specs.declared.worker.Role.TheVariants.{Client, Recoverer}
 use Rattle.mn_cluster.specs.declared.worker.Worker.{Worker}
 use Rattle.mn_cluster.specs.Workers.{hand_with, list_of}
-use Rattle.mn_world.specs.declared.entry.Entry.{Entry}
+use Rattle.mn_runs.specs.declared.entry.Entry.{Entry}
 
 -- Roles
 

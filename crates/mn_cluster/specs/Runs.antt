@@ -4,9 +4,8 @@ use Rattle.mn_callers.specs.Stages.{AreFreeIfSound, Played}
 use Rattle.mn_cluster.specs.Follows.{GoAtOnce, GoInTurn, IsRunThrough, IsRunToClosing}
 use Rattle.mn_script.specs.declared.elements.Mark.TheVariants.{First}
 use Rattle.mn_script.specs.Script.{Script}
-use Rattle.mn_world.specs.declared.entry.Entry.{Entry}
-use Rattle.mn_world.specs.OneHistory.{AreUp}
-use Rattle.mn_world.specs.Protocol.{Start}
+use Rattle.mn_runs.specs.declared.entry.Entry.{Entry}
+use Rattle.mn_runs.specs.Protocol.{AreUp, Start}
 
 -- the log went on so, whatever became of the work of recovery coordinators
 abbrev pub on_past : (List Entry → List Entry → Type 0) → Played → Played → Type 0

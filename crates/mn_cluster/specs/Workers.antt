@@ -14,9 +14,8 @@ use Rattle.mn_callers.specs.Going.{KeepsOrder}
 use Rattle.mn_callers.specs.Hands.{Hand, HasTurn, MovesOn, hand_of}
 use Rattle.mn_script.specs.declared.elements.Mark.TheVariants.{Plain}
 use Rattle.mn_script.specs.Script.{Script}
-use Rattle.mn_world.specs.Lists.{ClientState}
-use Rattle.mn_world.specs.Protocol.{Start}
-use Rattle.mn_world.specs.Run.{entries_of}
+use Rattle.mn_runs.specs.Lists.{ClientState}
+use Rattle.mn_runs.specs.Protocol.{Start, entries_of}
 
 -- the list of who works
 abbrev pub list_of : Role → ClientState

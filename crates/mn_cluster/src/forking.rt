@@ -2,7 +2,7 @@
 ghost use Rattle.std.specs.Prelude.{◌≡◌, All, ℕ, Some, length, slice_get, vec_capacity};
 ghost use Rattle.mn_actors.specs.Sight.{id_of};
 ghost use Rattle.mn_cell.specs.Filled.{filled_in};
-ghost use Rattle.mn_world.specs.Protocol.{start_of};
+ghost use Rattle.mn_runs.specs.Protocol.{start_of};
 ghost use Rattle.mn_cluster.specs.Wired.{IsWired};
 ghost use Rattle.mn_cluster.specs.Workers.{HasWorked, IsWorker};
 ghost use Rattle.mn_cluster.specs.declared.worker.Worker.{Worker as OneWorker};

@@ -18,7 +18,8 @@ use crate::worker::{Role, Worker};
 use mn_actors::{Actor, Board, Pass};
 use mn_base::NoMemory;
 use mn_callers::{Callers, Client, Desk};
-use mn_world::{ClientList, CoreLaw};
+use mn_law::CoreLaw;
+use mn_runs::ClientList;
 
 /// The list of who works.
 fn list_of(role: &Role) -> &ClientList

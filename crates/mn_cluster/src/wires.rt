@@ -5,9 +5,10 @@ use mn_base::{Answer, Busy, NodeNo, StopAt};
 use mn_callers::{Transport, put_alone};
 use mn_cell::{Cells, Named};
 use mn_io::Disk;
+use mn_law::CoreLaw;
 use mn_mini::{NodeReply, Request};
 use mn_node::RestartError;
-use mn_world::{ClientList, CoreLaw, What};
+use mn_runs::{ClientList, What};
 use std::alloc::Global;
 use std::sync::Wait;
 
@@ -49,7 +50,7 @@ impl<'a, N: Named, D: Disk, T: Wait> Transport for Wires<'a, N, D, T> {
     ghost use Rattle.mn_cell.specs.Filled.{filled_in};
     ghost use Rattle.mn_cluster.specs.Wired.{IsWired};
     ghost use Rattle.mn_actors.specs.Sight.{id_of};
-    ghost use Rattle.mn_world.specs.Protocol.{start_of};
+    ghost use Rattle.mn_runs.specs.Protocol.{start_of};
 
     ghost board = { N.board };
 

@@ -15,13 +15,13 @@ use Rattle.mn_mini.specs.declared.reply.NodeReply.{NodeReply}
 use Rattle.mn_mini.specs.declared.reply.NodeReply.TheVariants as Say
 use Rattle.mn_mini.specs.Mini.{Mini, is_named, participants_of, part_of, is_read}
 use Rattle.mn_mini.specs.Sound.{Fits}
-use Rattle.mn_world.specs.declared.entry.Entry.{Entry}
-use Rattle.mn_world.specs.Answers.{is_given_up, is_refusal, is_any_decide, is_any_prepare}
-use Rattle.mn_world.specs.Answers.{is_down_cause, is_doubt_cause}
-use Rattle.mn_world.specs.Calls.{Call, calls_of, is_prepare, is_exec, is_try, is_done, is_refused, is_stopped, is_down_reply, is_last_of, was_told, was_told_somewhere, was_done, was_decided, since_begin}
-use Rattle.mn_world.specs.Clients.{is_over}
-use Rattle.mn_world.proofs.Meaning.Over.{since_told}
-use Rattle.mn_world.proofs.Reading.Same.{tid_same-refl}
+use Rattle.mn_runs.specs.declared.entry.Entry.{Entry}
+use Rattle.mn_runs.specs.Clients.{is_given_up, is_over}
+use Rattle.mn_law.specs.Answers.{is_refusal, is_any_decide, is_any_prepare}
+use Rattle.mn_law.specs.Answers.{is_down_cause, is_doubt_cause}
+use Rattle.mn_runs.specs.Calls.{Call, calls_of, is_prepare, is_exec, is_try, is_done, is_refused, is_stopped, is_down_reply, is_last_of, was_told, was_told_somewhere, was_done, was_decided, since_begin}
+use Rattle.mn_runs.proofs.Since.{since_told}
+use Rattle.mn_runs.proofs.Same.{tid_same-refl}
 use Rattle.mn_coord.specs.declared.stage.Stage.{Stage}
 use Rattle.mn_coord.specs.declared.stage.Stage.TheVariants as At
 use Rattle.mn_coord.specs.declared.step.CoordStep.TheVariants.{Committed, Failed, Doubt}

@@ -16,13 +16,13 @@ use Rattle.mn_mini.specs.declared.request.Request.TheVariants as Ask
 use Rattle.mn_mini.specs.declared.reply.NodeReply.{NodeReply}
 use Rattle.mn_mini.specs.declared.reply.NodeReply.TheVariants as Say
 use Rattle.mn_mini.specs.Mini.{Mini, participants_of, part_of}
-use Rattle.mn_world.specs.declared.entry.Entry.{Entry}
-use Rattle.mn_world.specs.declared.entry.What.{What}
-use Rattle.mn_world.specs.declared.entry.What.TheVariants.{Begin, Issue, Called, Stopped, Restarted, Abandoned, Answered}
-use Rattle.mn_world.specs.Calls.{Call, call_in, calls_of, is_decide, is_prepare, is_exec, is_try, is_done, is_stopped, is_last_of, was_told, was_done, was_sent, was_stopped, has_yes, was_decided, was_abandoned, is_abandonment, is_in_doubt, Issued, issue_in, issues_of, issue_named, since_begin, since_begin_after}
-use Rattle.mn_world.specs.Clients.{Sends}
-use Rattle.mn_world.proofs.Commits.Never.{since_abandoned}
-use Rattle.mn_world.proofs.Reading.Same.{tid_same-refl}
+use Rattle.mn_runs.specs.declared.entry.Entry.{Entry}
+use Rattle.mn_runs.specs.declared.entry.What.{What}
+use Rattle.mn_runs.specs.declared.entry.What.TheVariants.{Begin, Issue, Called, Stopped, Restarted, Abandoned, Answered}
+use Rattle.mn_runs.specs.Calls.{Call, call_in, calls_of, is_decide, is_prepare, is_exec, is_try, is_done, is_stopped, is_last_of, was_told, was_done, was_sent, was_stopped, has_yes, was_decided, was_abandoned, is_abandonment, is_in_doubt, Issued, issue_in, issues_of, issue_named, since_begin, since_begin_after}
+use Rattle.mn_runs.specs.Clients.{Sends}
+use Rattle.mn_runs.proofs.Since.{since_abandoned}
+use Rattle.mn_runs.proofs.Same.{tid_same-refl}
 use Rattle.mn_coord.specs.declared.stage.Stage.{Stage}
 use Rattle.mn_coord.specs.declared.stage.Stage.TheVariants as At
 use Rattle.mn_coord.specs.declared.step.CoordStep.{CoordStep}

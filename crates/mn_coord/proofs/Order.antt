@@ -6,8 +6,8 @@ use Rattle.std.proofs.lemmas.Bool.{eq-eqb, ne_eqb, eqb-true, eqb-false, ltb-true
 use Rattle.mn_base.specs.Ids.{node_same, node_numbers}
 use Rattle.mn_base.specs.declared.ids.NodeNo.{NodeNo}
 use Rattle.mn_mini.specs.Mini.{Mini, is_named, participants_of}
-use Rattle.mn_world.specs.Calls.{is_last}
-use Rattle.mn_world.proofs.Votes.Records.{filter_all}
+use Rattle.mn_runs.specs.Calls.{is_last}
+use Rattle.mn_runs.proofs.NewCalls.{filter_all}
 
 abbrev pub at : List NodeNo → ℕ → NodeNo
 at ps i = slice_index_or ps i (record { 0 = 0 })

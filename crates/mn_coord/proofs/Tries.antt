@@ -9,9 +9,9 @@ use Rattle.mn_base.specs.Ids.{node_same}
 use Rattle.mn_base.proofs.Booleans.{clash, falsely, or_left, or_right}
 use Rattle.mn_mini.specs.declared.reply.NodeReply.{NodeReply}
 use Rattle.mn_mini.specs.Mini.{Mini}
-use Rattle.mn_world.specs.declared.entry.Entry.{Entry}
-use Rattle.mn_world.specs.Calls.{Call, call_in, calls_of, is_decide, is_done, is_try, was_decided, since_begin}
-use Rattle.mn_world.proofs.Meaning.Over.{since_told}
+use Rattle.mn_runs.specs.declared.entry.Entry.{Entry}
+use Rattle.mn_runs.specs.Calls.{Call, call_in, calls_of, is_decide, is_done, is_try, was_decided, since_begin}
+use Rattle.mn_runs.proofs.Since.{since_told}
 use Rattle.mn_coord.specs.Legal.{IsAnswerOf, TriesAre, names_tid}
 
 -- Tests of calls

@@ -6,11 +6,10 @@ use Rattle.mn_mini.specs.declared.reply.NodeReply.{NodeReply}
 use Rattle.mn_mini.specs.declared.reply.NodeReply.TheVariants as Say
 use Rattle.mn_mini.specs.Sound.{Fits}
 use Rattle.mn_mini.specs.Mini.{is_read}
-use Rattle.mn_world.specs.declared.entry.Entry.{Entry}
-use Rattle.mn_world.specs.Answers.{all_done, is_given_up, is_settled, is_refusal, is_down_cause}
-use Rattle.mn_world.specs.Answers.{is_doubt_cause}
-use Rattle.mn_world.specs.Calls.{Issued, calls_of, since_begin}
-use Rattle.mn_world.specs.Clients.{is_over}
+use Rattle.mn_runs.specs.declared.entry.Entry.{Entry}
+use Rattle.mn_law.specs.Answers.{all_done, is_settled, is_refusal, is_down_cause, is_doubt_cause}
+use Rattle.mn_runs.specs.Clients.{is_given_up, is_over}
+use Rattle.mn_runs.specs.Calls.{Issued, calls_of, since_begin}
 use Rattle.mn_coord.specs.declared.step.CoordStep.TheVariants.{Committed, Failed, Doubt}
 use Rattle.mn_coord.specs.Coordination.{Coordination, participant, step_of, try_request}
 use Rattle.mn_coord.specs.Legal.{Agrees}

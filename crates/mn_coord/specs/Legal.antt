@@ -9,12 +9,12 @@ use Rattle.mn_mini.specs.declared.request.Request.{Request}
 use Rattle.mn_mini.specs.declared.reply.NodeReply.{NodeReply}
 use Rattle.mn_mini.specs.declared.reply.NodeReply.TheVariants as Say
 use Rattle.mn_mini.specs.Mini.{Mini, participants_of}
-use Rattle.mn_world.specs.declared.entry.Entry.{Entry}
-use Rattle.mn_world.specs.declared.entry.What.TheVariants.{Issue, Abandoned}
-use Rattle.mn_world.specs.Calls.{Call, call_in, calls_of, is_prepare, is_done, is_stopped, was_told}
-use Rattle.mn_world.specs.Calls.{was_sent, was_done, was_stopped, was_abandoned, is_in_doubt}
-use Rattle.mn_world.specs.Calls.{was_decided, issues_of, issue_named, since_begin, is_try}
-use Rattle.mn_world.specs.Clients.{Sends, AllowsAbandoned}
+use Rattle.mn_runs.specs.declared.entry.Entry.{Entry}
+use Rattle.mn_runs.specs.declared.entry.What.TheVariants.{Issue, Abandoned}
+use Rattle.mn_runs.specs.Calls.{Call, call_in, calls_of, is_prepare, is_done, is_stopped, was_told}
+use Rattle.mn_runs.specs.Calls.{was_sent, was_done, was_stopped, was_abandoned, is_in_doubt}
+use Rattle.mn_runs.specs.Calls.{was_decided, issues_of, issue_named, since_begin, is_try}
+use Rattle.mn_runs.specs.Clients.{Sends, AllowsAbandoned}
 use Rattle.mn_coord.specs.declared.step.CoordStep.{CoordStep}
 use Rattle.mn_coord.specs.declared.step.CoordStep.TheVariants.{Send, Abandon}
 use Rattle.mn_coord.specs.declared.stage.Stage.TheVariants as At

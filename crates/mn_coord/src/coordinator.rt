@@ -38,8 +38,8 @@ impl Model for Coordinator {
 impl Coordinator {
     ghost use Rattle.mn_base.specs.declared.ids.NodeNo.{NodeNo};
     ghost use Rattle.mn_mini.specs.declared.request.Request.{Request};
-    ghost use Rattle.mn_world.specs.declared.entry.Entry.{Entry};
-    ghost use Rattle.mn_world.specs.declared.entry.What.TheVariants as is;
+    ghost use Rattle.mn_runs.specs.declared.entry.Entry.{Entry};
+    ghost use Rattle.mn_runs.specs.declared.entry.What.TheVariants as is;
     ghost use Rattle.mn_coord.specs.declared.step.CoordStep.TheVariants.{Send, Abandon};
     ghost use Rattle.mn_coord.specs.Coordination.{IsSoundCoordination, IsSoundStep};
     ghost use Rattle.mn_coord.specs.Coordination.{new_coordination, step_of, after_step, fed};

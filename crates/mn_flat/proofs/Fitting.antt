@@ -19,11 +19,12 @@ use Rattle.mn_mini.specs.declared.record.Record.{Record}
 use Rattle.mn_mini.specs.declared.record.Record.TheVariants.{Voted, Executed, Decided, Forced}
 use Rattle.mn_mini.specs.Node.{is_of, has_voted, has_executed, has_decided_yes, has_decided_no, is_held, is_vote_of, is_execution_of, is_yes_of, is_no_of}
 use Rattle.mn_mini.proofs.Parts.{same_self, same_true}
-use Rattle.mn_world.specs.Opened.{AreSound, HeldAreGreater, AreInPlace, IsInPlace, voted_participants, have_voted, is_committed, has_record}
-use Rattle.mn_world.proofs.Reading.Same.{tid_same-refl, tid_same-true}
-use Rattle.mn_world.proofs.Votes.Start.{vote_names, named_record, held_has_vote, voted_executed}
+use Rattle.mn_runs.specs.Sound.{AreSound, AreInPlace, IsInPlace, voted_participants, have_voted, is_committed, has_record}
+use Rattle.mn_law.specs.Opened.{HeldAreGreater}
+use Rattle.mn_runs.proofs.Same.{tid_same-refl, tid_same-true}
+use Rattle.mn_runs.proofs.Records.{vote_names, named_record, held_has_vote, voted_executed}
 use Rattle.mn_flat.specs.Votes.{IsRight, AreRight, lists_of, all_of, list_at, elders, has_several, has_all_votes, is_both, names_none_but}
-use Rattle.mn_world.specs.Protocol.{start_of, base_at}
+use Rattle.mn_runs.specs.Protocol.{start_of, base_at}
 use Rattle.mn_flat.proofs.Voting.{held_rises}
 use Rattle.mn_flat.proofs.Lists.{place_in, read_at}
 use Rattle.mn_flat.proofs.Telling.{newest_named, same_nodes-refl}
@@ -228,7 +229,7 @@ right_fit records right = record {
     same n m tid one other ln lm p q =
         let a = named_by_all records n (lists_of records n) tid one (right n ln) p in
         let b = named_by_all records m (lists_of records m) tid other (right m lm) q in
-        let voted = in_all records (is_vote_of tid) n (Rattle.mn_world.proofs.Votes.Start.named_voted tid one (lists_of records n) p) in
+        let voted = in_all records (is_vote_of tid) n (Rattle.mn_runs.proofs.Records.named_voted tid one (lists_of records n) p) in
         let v = vote_names tid (all_of records) voted in
         sym (newest_named tid one v.0 (all_of records) a v.1) ∙ newest_named tid other v.0 (all_of records) b v.1
 

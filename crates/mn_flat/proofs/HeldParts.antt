@@ -8,7 +8,7 @@ use Rattle.mn_base.specs.declared.ids.Tid.{Tid}
 use Rattle.mn_mini.specs.declared.part.PartItem.{PartItem}
 use Rattle.mn_mini.specs.Mini.{parts_conflict}
 use Rattle.mn_mini.specs.Node.{HeldPart, held_part_of, without_tid}
-use Rattle.mn_world.specs.Opened.{is_free}
+use Rattle.mn_runs.specs.Sound.{is_free}
 use Rattle.mn_flat.specs.declared.held.Held.{Held}
 use Rattle.mn_flat.specs.Known.{held_seen, parts_seen}
 

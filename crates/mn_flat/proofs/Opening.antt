@@ -7,10 +7,10 @@ use Rattle.mn_base.specs.Ids.{node_numbers}
 use Rattle.mn_base.specs.declared.ids.NodeNo.{NodeNo}
 use Rattle.mn_mini.specs.declared.record.Record.{Record}
 use Rattle.mn_mini.specs.Node.{held_parts, space_of, with_held}
-use Rattle.mn_world.specs.Protocol.{base_at, start_of}
-use Rattle.mn_world.specs.Opened.{is_committed, opened_memory}
+use Rattle.mn_runs.specs.Protocol.{base_at, start_of}
+use Rattle.mn_runs.specs.Sound.{is_committed, opened_memory}
 use Rattle.mn_page.specs.Base.{base_of}
-use Rattle.mn_world.proofs.Bytes.Bases.{base_there}
+use Rattle.mn_runs.proofs.Bases.{base_there}
 use Rattle.mn_flat.specs.Votes.{lists_of, numbered}
 
 -- the space of a node by its base

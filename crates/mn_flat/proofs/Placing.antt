@@ -2,8 +2,9 @@
 use Rattle.std.proofs.Common.{◌≡◌, ◌<◌, inl, inr, ℕ, zero, suc, List, [], ◌∷◌, ◌++◌, take, reverse, Some, slice_get, refl, ap, sym, ◌∙◌, subst, arith, length}
 use Rattle.mn_base.specs.declared.ids.NodeNo.{NodeNo}
 use Rattle.mn_mini.specs.declared.record.Record.{Record}
-use Rattle.mn_world.specs.Opened.{AreSound, HeldAreGreater}
-use Rattle.mn_world.specs.Protocol.{start_of, base_at}
+use Rattle.mn_runs.specs.Sound.{AreSound}
+use Rattle.mn_law.specs.Opened.{HeldAreGreater}
+use Rattle.mn_runs.specs.Protocol.{start_of, base_at}
 use Rattle.mn_flat.specs.declared.error.VoteError.{VoteError}
 use Rattle.mn_flat.specs.declared.error.VoteError.TheVariants.{Unvoted, Both, NoMemory}
 use Rattle.mn_flat.specs.Refusal.{RefusesRecords, IsWantOfMemory}

@@ -9,7 +9,8 @@ use Rattle.mn_base.proofs.Naturals.{below_or}
 use Rattle.mn_base.specs.Ranges.{ranges_meet}
 use Rattle.mn_base.specs.declared.ids.NodeNo.{NodeNo}
 use Rattle.mn_mini.specs.declared.part.PartItem.TheVariants.{Write}
-use Rattle.mn_world.specs.Places.{Place, WritesWhole, content_in, number_in}
+use Rattle.mn_runs.specs.Seen.{Place}
+use Rattle.mn_law.specs.Places.{WritesWhole, content_in, number_in}
 use Rattle.mn_flat.specs.Numbers.{rises}
 
 -- Tests of numbers

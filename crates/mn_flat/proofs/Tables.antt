@@ -9,8 +9,8 @@ use Rattle.mn_mini.specs.declared.record.Record.{Record}
 use Rattle.mn_mini.specs.declared.record.Record.TheVariants.{Voted, Executed, Decided, Forced}
 use Rattle.mn_mini.specs.Node.{is_of, has_executed, has_decided_yes, has_decided_no}
 use Rattle.mn_mini.specs.RecordGrammar.{HasTid}
-use Rattle.mn_world.specs.Opened.{voted_participants, has_record}
-use Rattle.mn_world.proofs.Reading.Same.{tid_same-refl, tid_same-true}
+use Rattle.mn_runs.specs.Sound.{voted_participants, has_record}
+use Rattle.mn_runs.proofs.Same.{tid_same-refl, tid_same-true}
 use Rattle.mn_flat.specs.declared.known.Known.{Known}
 use Rattle.mn_flat.specs.declared.known.Table.{Table}
 use Rattle.mn_flat.specs.Known.{IsKnown, TableTells, FollowsRecord, known_at, id_key, keys_same, unknown, differs_from, votes_differ}

@@ -13,10 +13,9 @@ use Rattle.mn_mini.specs.declared.record.Record.{Record}
 use Rattle.mn_mini.specs.declared.record.Record.TheVariants.{Voted, Executed, Decided, Forced}
 use Rattle.mn_mini.specs.Node.{HeldPart, has_voted, has_executed, held_parts, held_part_of, is_held}
 use Rattle.mn_mini.proofs.Parts.{same_self, same_true}
-use Rattle.mn_world.specs.Opened.{voted_participants, have_voted, is_committed, has_record, is_free, IsInPlace}
-use Rattle.mn_world.proofs.Reading.Same.{tid_same-refl}
-use Rattle.mn_world.proofs.Votes.Start.{vote_names}
-use Rattle.mn_world.proofs.Computed.Standing.{all_same}
+use Rattle.mn_runs.specs.Sound.{voted_participants, have_voted, is_committed, has_record, is_free, IsInPlace}
+use Rattle.mn_runs.proofs.Same.{tid_same-refl}
+use Rattle.mn_runs.proofs.Records.{vote_names, all_same}
 use Rattle.mn_flat.specs.declared.known.Table.{Table}
 use Rattle.mn_flat.specs.declared.votes.Told.{Told}
 use Rattle.mn_flat.specs.declared.votes.Past.{Past}

@@ -18,12 +18,14 @@ use Rattle.mn_mini.specs.Node.{HeldPart, held_parts, space_of, without_tid}
 use Rattle.mn_mini.proofs.Parts.{same_true}
 use Rattle.mn_page.specs.Base.{base_of}
 use Rattle.mn_page.specs.Space.{catalog_start, entry_size, slots_start, slot_size, max_slots, space_length}
-use Rattle.mn_world.specs.Places.{Place, IsNumbered, WritesWhole, content_in, number_in, page_place, entry_place, catalog_node}
-use Rattle.mn_world.specs.Protocol.{start_of, base_at}
-use Rattle.mn_world.specs.Opened.{HeldAreGreater, is_committed, is_free}
-use Rattle.mn_world.proofs.Bytes.Bases.{base_there}
-use Rattle.mn_world.proofs.Plans.Told.{all_there}
-use Rattle.mn_world.proofs.Reading.Same.{tid_same-refl, tid_same-true}
+use Rattle.mn_runs.specs.Seen.{Place}
+use Rattle.mn_law.specs.Places.{IsNumbered, WritesWhole, content_in, number_in, page_place, entry_place, catalog_node}
+use Rattle.mn_runs.specs.Protocol.{start_of, base_at}
+use Rattle.mn_law.specs.Opened.{HeldAreGreater}
+use Rattle.mn_runs.specs.Sound.{is_committed, is_free}
+use Rattle.mn_runs.proofs.Bases.{base_there}
+use Rattle.mn_plans.proofs.Told.{all_there}
+use Rattle.mn_runs.proofs.Same.{tid_same-refl, tid_same-true}
 use Rattle.mn_flat.specs.declared.held.Held.{Held}
 use Rattle.mn_flat.specs.declared.votes.Told.{Told}
 use Rattle.mn_flat.specs.declared.votes.Past.{Past}

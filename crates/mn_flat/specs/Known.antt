@@ -11,7 +11,7 @@ use Rattle.mn_base.specs.declared.ids.Tid.{Tid}
 use Rattle.mn_mini.specs.declared.record.Record.{Record}
 use Rattle.mn_mini.specs.declared.record.Record.TheVariants.{Voted, Executed, Decided, Forced}
 use Rattle.mn_mini.specs.Node.{HeldPart, has_executed, has_decided_yes, has_decided_no}
-use Rattle.mn_world.specs.Opened.{voted_participants, has_record}
+use Rattle.mn_runs.specs.Sound.{voted_participants, has_record}
 use Rattle.mn_flat.specs.declared.known.IdKey.{IdKey}
 use Rattle.mn_flat.specs.declared.known.Known.{Known}
 use Rattle.mn_flat.specs.declared.known.Table.{Table}

@@ -9,7 +9,8 @@ use Rattle.mn_mini.specs.declared.part.PartItem.{PartItem}
 use Rattle.mn_mini.specs.declared.part.PartItem.TheVariants.{Compare, Read, Write}
 use Rattle.mn_page.specs.Space.{catalog_start, catalog_size, entry_size, slots_start, slot_size}
 use Rattle.mn_page.specs.Space.{space_length}
-use Rattle.mn_world.specs.Places.{Place, IsNumbered, WritesWhole, content_in, number_in}
+use Rattle.mn_runs.specs.Seen.{Place}
+use Rattle.mn_law.specs.Places.{IsNumbered, WritesWhole, content_in, number_in}
 
 -- in words
 

@@ -13,9 +13,8 @@ use Rattle.mn_mini.specs.declared.record.Record.TheVariants.{Voted, Executed, De
 use Rattle.mn_mini.specs.Node.{is_of, has_decided_yes, has_decided_no, HeldPart, held_parts}
 use Rattle.mn_mini.specs.Node.{space_of}
 use Rattle.mn_page.specs.Base.{base_of}
-use Rattle.mn_world.specs.Protocol.{start_of, start_records}
-use Rattle.mn_world.specs.Opened.{voted_participants, have_voted, is_committed, has_record}
-use Rattle.mn_world.specs.Opened.{IsInPlace}
+use Rattle.mn_runs.specs.Protocol.{start_of, start_records}
+use Rattle.mn_runs.specs.Sound.{voted_participants, have_voted, is_committed, has_record, IsInPlace}
 use Rattle.mn_flat.specs.Numbers.{PartRises}
 
 -- the records of each node, and those of all nodes one node after the other, newest first

@@ -6,14 +6,15 @@ ghost use Rattle.mn_base.specs.declared.ids.NodeNo.{NodeNo};
 ghost use Rattle.mn_mini.specs.declared.record.Record.{Record};
 ghost use Rattle.mn_mini.specs.Flat.{space_after_part};
 ghost use Rattle.mn_mini.specs.Node.{held_parts, space_of, with_held};
-ghost use Rattle.mn_world.specs.Opened.{AreSound, HeldAreGreater, is_committed, opened_memory};
+ghost use Rattle.mn_runs.specs.Sound.{AreSound, is_committed, opened_memory};
+ghost use Rattle.mn_law.specs.Opened.{HeldAreGreater};
 ghost use Rattle.mn_page.specs.Base.{base_of};
 ghost use Rattle.mn_page.specs.Space.{space_length};
 ghost use Rattle.mn_flat.specs.Known.{TableTells, parts_seen, says_committed};
 ghost use Rattle.mn_flat.specs.Refusal.{RefusesRecords, IsWantOfMemory};
 ghost use Rattle.mn_flat.specs.Told.{IsTold, IsEnd, RefusesIn};
 ghost use Rattle.mn_flat.specs.Votes.{AreRight, lists_of, list_at, numbered};
-ghost use Rattle.mn_world.specs.Protocol.{start_of, base_at};
+ghost use Rattle.mn_runs.specs.Protocol.{start_of, base_at};
 
 use crate::VoteError;
 use crate::held::{Held, hold};

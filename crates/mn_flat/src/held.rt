@@ -6,7 +6,7 @@ ghost use Rattle.mn_base.specs.Ranges.{ranges_meet};
 ghost use Rattle.mn_mini.specs.Mini.{items_conflict, item_conflicts_with, parts_conflict, range_of};
 ghost use Rattle.mn_mini.specs.Mini.{is_write};
 ghost use Rattle.mn_mini.specs.Node.{held_parts, held_part_of, without_tid};
-ghost use Rattle.mn_world.specs.Opened.{is_free};
+ghost use Rattle.mn_runs.specs.Sound.{is_free};
 ghost use Rattle.mn_flat.specs.Known.{held_seen, parts_seen};
 
 use mn_base::{NoMemory, Nodes, Range, Tid};

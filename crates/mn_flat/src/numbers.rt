@@ -1,7 +1,7 @@
 ghost use Rattle.std.specs.Prelude.{◌≡◌, ◌≤◌, ◌||◌, not, length};
 ghost use Rattle.std.specs.List.{list_all};
 ghost use Rattle.mn_base.specs.Ids.{tid_same};
-ghost use Rattle.mn_world.specs.Places.{number_in};
+ghost use Rattle.mn_law.specs.Places.{number_in};
 ghost use Rattle.mn_flat.specs.Numbers.{rises, item_rises};
 
 use crate::held::Held;

@@ -7,7 +7,7 @@ ghost use Rattle.mn_base.specs.Ids.{node_same, tid_same};
 ghost use Rattle.mn_base.specs.declared.ids.NodeNo.{NodeNo};
 ghost use Rattle.mn_mini.specs.declared.record.Record.{Record};
 ghost use Rattle.mn_mini.specs.Node.{held_part_of};
-ghost use Rattle.mn_world.specs.Opened.{is_free};
+ghost use Rattle.mn_runs.specs.Sound.{is_free};
 ghost use Rattle.mn_flat.specs.Known.{parts_seen, known_at, named_in, says_voted, says_all};
 ghost use Rattle.mn_flat.specs.Known.{says_committed};
 ghost use Rattle.mn_flat.specs.Told.{IsTold, IsPast, IsEnd, SaysWrong};

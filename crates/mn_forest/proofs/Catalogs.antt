@@ -13,7 +13,7 @@ use Rattle.mn_base.proofs.Keys.{bytes_eq-true, bytes_eq-refl}
 use Rattle.mn_base.proofs.Naturals.{eq_turned, lt_from, lt_true}
 use Rattle.mn_base.proofs.Lists.{last_at}
 use Rattle.mn_base.proofs.Booleans.{both_parts, clash}
-use Rattle.mn_world.proofs.Plans.Compares.{element_at}
+use Rattle.mn_plans.proofs.Compares.{element_at}
 use Rattle.mn_forest.specs.Rules.{EntryFits, entries_of, entry_of, parent_fits, is_named, is_child_of}
 use Rattle.mn_flat.proofs.Lists.{pushed_at, place_in, read_at}
 use Rattle.mn_forest.proofs.Partition.{head_at}

@@ -7,7 +7,7 @@ use Rattle.std.proofs.lemmas.List.{length-map}
 use Rattle.mn_base.specs.Tree.{serves}
 use Rattle.mn_base.proofs.Naturals.{lt_from, lt_true}
 use Rattle.mn_base.proofs.Booleans.{both_parts, clash}
-use Rattle.mn_world.proofs.Plans.Compares.{element_at}
+use Rattle.mn_plans.proofs.Compares.{element_at}
 use Rattle.mn_page.specs.declared.entry.CatEntry.{CatEntry}
 use Rattle.mn_page.specs.declared.page.Page.{Page}
 use Rattle.mn_page.specs.Grammar.{height_of}

@@ -21,7 +21,7 @@ use Rattle.mn_page.proofs.Grid.{all_at_place}
 use Rattle.mn_base.proofs.PairsWith.{ascending_parts, ascending_cons, first_above}
 use Rattle.mn_base.proofs.Lists.{all_append, weaker}
 use Rattle.mn_base.proofs.Booleans.{clash}
-use Rattle.mn_world.proofs.Meaning.Ranges.{lt_le}
+use Rattle.mn_plans.proofs.Spaces.{lt_le}
 use Rattle.mn_forest.specs.Shown.{pairs_below, height_there, version_shown, store_shown}
 use Rattle.mn_forest.proofs.Children.{addrs_are}
 use Rattle.mn_forest.proofs.Ranges.{child_covers, covered, covers, IsCut, cut_of, child_for, inside_from, child_inside}

@@ -17,11 +17,11 @@ use Rattle.mn_page.specs.Holds.{IsChild, IsForest}
 use Rattle.mn_page.proofs.Spelled.{entry_spelled_once, length-padded}
 use Rattle.mn_page.proofs.Counted.{IsCounted, counted}
 use Rattle.mn_page.proofs.Grid.{all_at_place, all_by_place}
-use Rattle.mn_world.proofs.Plans.Pieces.{bytes_in-skip, bytes_in-within, AreZeros, zeros_behind}
-use Rattle.mn_world.proofs.Plans.Spaces.{memory_by_pages, space_bytes, catalog_bytes, AreSlots, text_length, slot_free, same_zeros, catalog_length, get_in-index, node_slots, space_in-memory_by_pages, head_length, front_length, page_read, page_there, entry_read, entry_free, entry_there, catalog_region, page_node, memory_length}
-use Rattle.mn_world.proofs.Plans.SplitRoot.{count_read}
-use Rattle.mn_world.proofs.Plans.Laying.{laid_is}
-use Rattle.mn_world.proofs.Plans.Compares.{element_at}
+use Rattle.mn_law.proofs.Pieces.{bytes_in-skip, bytes_in-within, AreZeros, zeros_behind}
+use Rattle.mn_plans.proofs.Spaces.{memory_by_pages, space_bytes, catalog_bytes, AreSlots, text_length, slot_free, same_zeros, catalog_length, get_in-index, node_slots, space_in-memory_by_pages, head_length, front_length, page_read, page_there, entry_read, entry_free, entry_there, catalog_region, page_node, memory_length}
+use Rattle.mn_plans.proofs.SplitRoot.{count_read}
+use Rattle.mn_plans.proofs.Laying.{laid_is}
+use Rattle.mn_plans.proofs.Compares.{element_at}
 use Rattle.mn_forest.specs.Rules.{Says, ReadsAs, space_at, count_at, entry_place, slot_place, StandsAt, entries_of, entry_of, zeros, HasHeader, IsCount, HasEntry, HasEntryAt, HasRootAt, IsRootAt, HasPage, IsChildAt, HasChildren, IsReached, IsNamedAt, IsRootOf, OfHeader, OfCount, OfEntry, OfRoot, OfPage, OfChildren, OfReach, AllPass}
 use Rattle.mn_flat.proofs.Lists.{place_in}
 use Rattle.mn_forest.proofs.Noting.{stands_on_node}
@@ -134,7 +134,7 @@ module _ (f : Forest) (sound : IsForest f) where
       (length-bytes_high_first 8 (length (slice_index_or f.pages n []))) (omega arith) (omega arith)
     where
       length-flat : (ps : List Page) → AreSlots ps → length (flat_map page_bytes ps) ≡ 1024 * length ps
-      length-flat ps slots = Rattle.mn_world.proofs.Plans.Pieces.length-pieces page_bytes 1024 ps slots
+      length-flat ps slots = Rattle.mn_law.proofs.Pieces.length-pieces page_bytes 1024 ps slots
 
   has_header : (n : ℕ) → n < node_count f → HasHeader M n
   has_header n in' =

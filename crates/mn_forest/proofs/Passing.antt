@@ -16,10 +16,10 @@ use Rattle.mn_page.specs.Forest.{Forest, header_bytes, memory_of, page_at, child
 use Rattle.mn_page.specs.Holds.{HasVersions, IsChild, IsRoot, IsLaid, IsForest, page_serves}
 use Rattle.mn_page.proofs.Spelled.{page_length, entry_length}
 use Rattle.mn_page.proofs.Grid.{all_by_place, all_at_place}
-use Rattle.mn_world.proofs.Plans.Pieces.{length-pieces}
-use Rattle.mn_world.proofs.Plans.Spaces.{space_bytes, catalog_bytes, get_in-index, page_node}
-use Rattle.mn_world.proofs.Plans.Laying.{laid_is}
-use Rattle.mn_world.proofs.Plans.Compares.{element_at}
+use Rattle.mn_law.proofs.Pieces.{length-pieces}
+use Rattle.mn_plans.proofs.Spaces.{space_bytes, catalog_bytes, get_in-index, page_node}
+use Rattle.mn_plans.proofs.Laying.{laid_is}
+use Rattle.mn_plans.proofs.Compares.{element_at}
 use Rattle.mn_forest.specs.Rules.{Says, ReadsAs, space_at, count_at, entry_place, StandsAt, entries_of, zeros, HasHeader, IsCount, HasEntry, EntryFits, IsReadable, IsRootAt, IsChildAt, IsReached, OfHeader, OfCount, OfEntry, OfRoot, OfPage, OfChildren, OfReach, AllPass}
 use Rattle.mn_flat.proofs.Lists.{place_in, read_at, pushed_at}
 use Rattle.mn_forest.proofs.Fronts.{one_page}

@@ -7,9 +7,9 @@ use Rattle.mn_base.specs.Ids.{client_same, node_same}
 use Rattle.mn_base.specs.declared.ids.ClientNo.{ClientNo}
 use Rattle.mn_script.specs.declared.elements.Point.{Point}
 use Rattle.mn_script.specs.declared.elements.Point.TheVariants.{Kill, Stop}
-use Rattle.mn_world.specs.declared.entry.Entry.{Entry}
-use Rattle.mn_world.specs.Calls.{Begun, is_by, client_entries, under_way}
-use Rattle.mn_world.proofs.Reading.Same.{client_same-true}
+use Rattle.mn_runs.specs.declared.entry.Entry.{Entry}
+use Rattle.mn_runs.specs.Calls.{Begun, is_by, client_entries, under_way}
+use Rattle.mn_runs.proofs.Same.{client_same-true}
 use Rattle.mn_hist.specs.declared.points.Step.{Step}
 use Rattle.mn_hist.specs.Points.{asked_in, client_of, stops_same, point_fits, point_fits_after, votes_with, with_met, points_met}
 use Rattle.mn_hist.specs.Watching.{StepMeetsPoint, number_of, step_fits}

@@ -19,21 +19,20 @@ use Rattle.mn_base.proofs.Lists.{set_at}
 use Rattle.mn_mini.specs.Mini.{Mini, is_read}
 use Rattle.mn_mini.proofs.Fits.{unsome}
 use Rattle.mn_page.proofs.Alike.{get-set_other}
-use Rattle.mn_world.specs.declared.entry.Entry.{Entry}
-use Rattle.mn_world.specs.declared.entry.What.{What}
-use Rattle.mn_world.specs.declared.entry.What.TheVariants.{Begin, Issue, Called, Stopped, Restarted, Abandoned, Answered}
-use Rattle.mn_world.specs.declared.commit_reader.CommittedMini.{CommittedMini}
-use Rattle.mn_world.specs.Calls.{node_entries, Issued, issue_in, issues_of, issue_named}
-use Rattle.mn_world.specs.CommitReader.{issued_of}
-use Rattle.mn_world.specs.Commits.{committed_by, committed_at, effect_of}
-use Rattle.mn_world.specs.History.{Placed, EntryPuts, IsHistory, StepPuts, pasts_of}
-use Rattle.mn_world.specs.Meaning.{HistoryIsOne, OpenedRun}
-use Rattle.mn_world.specs.OneHistory.{RunsHaveHistory}
-use Rattle.mn_world.specs.Protocol.{Start}
-use Rattle.mn_world.specs.Run.{entries_of}
-use Rattle.mn_world.specs.Shown.{seen_at}
-use Rattle.mn_world.proofs.Reading.Same.{client_same-refl, client_same-true}
-use Rattle.mn_world.proofs.Meaning.Effects.{with_named}
+use Rattle.mn_runs.specs.declared.entry.Entry.{Entry}
+use Rattle.mn_runs.specs.declared.entry.What.{What}
+use Rattle.mn_runs.specs.declared.entry.What.TheVariants.{Begin, Issue, Called, Stopped, Restarted, Abandoned, Answered}
+use Rattle.mn_commits.specs.declared.commit_reader.CommittedMini.{CommittedMini}
+use Rattle.mn_runs.specs.Calls.{node_entries, Issued, issue_in, issues_of, issue_named}
+use Rattle.mn_commits.specs.CommitReader.{issued_of}
+use Rattle.mn_runs.specs.Commits.{committed_by, committed_at, effect_of}
+use Rattle.mn_serial.specs.History.{Placed, EntryPuts, IsHistory, StepPuts, pasts_of}
+use Rattle.mn_serial.specs.Meaning.{HistoryIsOne, OpenedRun}
+use Rattle.mn_serial.specs.OneHistory.{RunsHaveHistory}
+use Rattle.mn_runs.specs.Protocol.{Start, entries_of}
+use Rattle.mn_runs.specs.Seen.{seen_at}
+use Rattle.mn_runs.proofs.Same.{client_same-refl, client_same-true}
+use Rattle.mn_serial.proofs.Meaning.Effects.{with_named}
 use Rattle.mn_hist.specs.declared.plans.Plans.{Plans}
 use Rattle.mn_hist.specs.Plans.{Planner, planner_kept}
 use Rattle.mn_hist.specs.declared.acts.PlacedAct.{PlacedAct}

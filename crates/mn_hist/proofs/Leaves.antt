@@ -16,10 +16,11 @@ use Rattle.mn_page.specs.declared.page.Body.TheVariants.{Leaf, Inner}
 use Rattle.mn_page.specs.declared.page.Page.{Page}
 use Rattle.mn_page.specs.Grammar.{IsEntry, IsBody, height_of}
 use Rattle.mn_page.specs.Holds.{page_covers, pairs_in}
-use Rattle.mn_world.specs.declared.entry.Entry.{Entry}
-use Rattle.mn_world.specs.Places.{page_place}
-use Rattle.mn_world.specs.Shown.{Seen, LeafShows, ReadShows}
-use Rattle.mn_world.proofs.Examples.Entries.{page_is_no_catalog}
+use Rattle.mn_runs.specs.declared.entry.Entry.{Entry}
+use Rattle.mn_law.specs.Places.{page_place}
+use Rattle.mn_runs.specs.Seen.{Seen}
+use Rattle.mn_law.specs.Shown.{LeafShows, ReadShows}
+use Rattle.mn_law.proofs.Shows.{page_is_no_catalog}
 use Rattle.mn_hist.specs.Shown.{TestDecides, is_of_catalog, HasCatalog, IsUnshown, TellsShown, CatalogBytesShow, lone_key, found_at, LeafBytesShow, TellsLeafBytesShow, IsServedByCatalog}
 use Rattle.mn_hist.proofs.Places.{catalog_read, no_catalog_read}
 

@@ -17,11 +17,10 @@ use Rattle.mn_actors.specs.declared.clock.View.{View}
 use Rattle.mn_actors.specs.Lines.{node_at, client_at, same_actor, IsActor}
 use Rattle.mn_actors.specs.Lists.{held, or_else, Owns, OwnsAll, IsJoined, IsSplit, IsSameLists}
 use Rattle.mn_actors.specs.Log.{IsOneLog}
-use Rattle.mn_world.specs.declared.entry.Entry.{Entry}
-use Rattle.mn_world.specs.Laws.{NodeListAllowed}
-use Rattle.mn_world.specs.Lists.{ClientState}
-use Rattle.mn_world.specs.Protocol.{Start, start_nodes}
-use Rattle.mn_world.specs.Run.{IsLogOfRun, entries_of}
+use Rattle.mn_runs.specs.declared.entry.Entry.{Entry}
+use Rattle.mn_runs.specs.Protocol.{NodeListAllowed, Start, start_nodes, entries_of}
+use Rattle.mn_runs.specs.Lists.{ClientState}
+use Rattle.mn_law.specs.Run.{IsLogOfRun}
 use Rattle.mn_cell.specs.Calls.{EndsList, IsLegalLine, MaySend, entry_at, what_said}
 use Rattle.mn_cell.specs.Passes.{OwnsJust}
 use Rattle.mn_cell.specs.Runs.{ArePartsOfRun, IsIssueOf, PartsMakeRun, placed_from}

@@ -29,28 +29,28 @@ use Rattle.mn_mini.proofs.Bytes.{length-overwritten}
 use Rattle.mn_mini.proofs.Fits.{length-space_of}
 use Rattle.mn_mini.proofs.SoundParts.{parts_are_sound}
 use Rattle.mn_report.specs.Answers.{IsMove}
-use Rattle.mn_world.specs.declared.entry.Entry.{Entry}
-use Rattle.mn_world.specs.declared.entry.What.{What}
-use Rattle.mn_world.specs.declared.entry.What.TheVariants.{Called}
-use Rattle.mn_world.specs.Calls.{client_entries}
-use Rattle.mn_world.specs.Clients.{Sends}
-use Rattle.mn_world.specs.Answers.{part_compares}
-use Rattle.mn_world.specs.Protocol.{Start, FollowsProtocol, AllowedAt, AllowedBy, base_at, start_nodes, start_records, records_of}
-use Rattle.mn_world.specs.Opened.{is_committed, opened_memory}
-use Rattle.mn_world.specs.Laws.{part_of_request}
-use Rattle.mn_world.specs.Meaning.{OpenedRun, StandsAt, AnswersOp}
-use Rattle.mn_world.specs.Causes.{WasMoved}
-use Rattle.mn_world.proofs.Reading.MakeRun.{runs_follow_protocol}
-use Rattle.mn_world.proofs.Votes.Acts.{sent_unvoted}
-use Rattle.mn_world.proofs.Bytes.Through.{Whole}
-use Rattle.mn_world.proofs.Bytes.Spaces.{whole_run}
-use Rattle.mn_world.proofs.Plans.Told.{all_there}
-use Rattle.mn_world.proofs.Meaning.Catalogs.{holds_sizes}
-use Rattle.mn_world.proofs.Meaning.Held.{call_answer}
-use Rattle.mn_world.proofs.Meaning.LastTry.{in_log}
-use Rattle.mn_world.proofs.Meaning.Moved.{moved_by_other}
-use Rattle.mn_world.proofs.Meaning.Prefixes.{follows_before}
-use Rattle.mn_world.proofs.Meaning.Stands.{contains_here}
+use Rattle.mn_runs.specs.declared.entry.Entry.{Entry}
+use Rattle.mn_runs.specs.declared.entry.What.{What}
+use Rattle.mn_runs.specs.declared.entry.What.TheVariants.{Called}
+use Rattle.mn_runs.specs.Calls.{client_entries}
+use Rattle.mn_runs.specs.Clients.{Sends}
+use Rattle.mn_law.specs.Answers.{part_compares}
+use Rattle.mn_runs.specs.Protocol.{Start, FollowsProtocol, AllowedAt, AllowedBy, base_at, start_nodes, start_records, records_of}
+use Rattle.mn_runs.specs.Sound.{is_committed, opened_memory}
+use Rattle.mn_commits.specs.Laws.{part_of_request}
+use Rattle.mn_serial.specs.Meaning.{OpenedRun, StandsAt, AnswersOp}
+use Rattle.mn_causes.specs.Causes.{WasMoved}
+use Rattle.mn_law.proofs.MakeRun.{runs_follow_protocol}
+use Rattle.mn_votes.proofs.Acts.{sent_unvoted}
+use Rattle.mn_commits.proofs.Bytes.Through.{Whole}
+use Rattle.mn_commits.proofs.Bytes.Spaces.{whole_run}
+use Rattle.mn_plans.proofs.Told.{all_there}
+use Rattle.mn_plans.proofs.Catalogs.{holds_sizes}
+use Rattle.mn_causes.proofs.Held.{call_answer}
+use Rattle.mn_causes.proofs.LastTry.{in_log}
+use Rattle.mn_causes.proofs.Moved.{moved_by_other}
+use Rattle.mn_runs.proofs.Prefixes.{follows_before}
+use Rattle.mn_serial.proofs.Meaning.Stands.{contains_here}
 
 -- The compare that differs
 

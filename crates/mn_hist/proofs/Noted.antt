@@ -10,15 +10,16 @@ use Rattle.mn_base.specs.declared.op.Op.TheVariants.{Tx, Snapshot, Branch, Scan,
 use Rattle.mn_base.specs.declared.reply.Reply.{Reply}
 use Rattle.mn_base.specs.declared.reply.Reply.TheVariants as Say
 use Rattle.mn_base.proofs.Booleans.{clash}
-use Rattle.mn_world.specs.declared.entry.Entry.{Entry}
-use Rattle.mn_world.specs.declared.entry.What.{What}
-use Rattle.mn_world.specs.declared.entry.What.TheVariants.{Begin, Issue, Called, Stopped, Restarted, Abandoned, Answered}
-use Rattle.mn_world.specs.Calls.{Begun, Call, call_in, is_by, client_entries, begun_in, under_way, under_way_after, since_begin, since_begin_after}
-use Rattle.mn_world.specs.History.{LastShown, ShowsHere, FirstCatalogAt, ReadPlace, NoCatalog}
-use Rattle.mn_world.specs.Shown.{Seen, seen_at, seen_by, seen_in, ReadShows}
-use Rattle.mn_world.proofs.Bytes.Seen.{nothing}
-use Rattle.mn_world.proofs.Meaning.Tell.{one_read, only}
-use Rattle.mn_world.proofs.Reading.Sees.{seen_in-cons}
+use Rattle.mn_runs.specs.declared.entry.Entry.{Entry}
+use Rattle.mn_runs.specs.declared.entry.What.{What}
+use Rattle.mn_runs.specs.declared.entry.What.TheVariants.{Begin, Issue, Called, Stopped, Restarted, Abandoned, Answered}
+use Rattle.mn_runs.specs.Calls.{Begun, Call, call_in, is_by, client_entries, begun_in, under_way, under_way_after, since_begin, since_begin_after}
+use Rattle.mn_serial.specs.History.{LastShown, ShowsHere, FirstCatalogAt, ReadPlace, NoCatalog}
+use Rattle.mn_runs.specs.Seen.{Seen, seen_at, seen_by, seen_in}
+use Rattle.mn_law.specs.Shown.{ReadShows}
+use Rattle.mn_runs.proofs.Seen.{nothing}
+use Rattle.mn_serial.proofs.Meaning.Tell.{one_read, only}
+use Rattle.mn_law.proofs.Sees.{seen_in-cons}
 use Rattle.mn_hist.proofs.Places.{catalog_read, no_catalog_read}
 use Rattle.mn_hist.specs.History.{Note, CallerState, with_seen, state_after, caller_state, IsLastNote, IsFirstNote, IsOnlyNote, IsNotedPlace}
 use Rattle.mn_hist.specs.Shown.{is_of_catalog, HasCatalog, IsShownBy, IsUnshown}

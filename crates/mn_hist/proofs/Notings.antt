@@ -9,13 +9,13 @@ use Rattle.mn_base.specs.declared.op.Op.{Op}
 use Rattle.mn_base.specs.declared.reply.Reply.{Reply}
 use Rattle.mn_base.proofs.Lists.{all_append}
 use Rattle.mn_mini.specs.declared.reply.NodeReply.TheVariants as Say
-use Rattle.mn_world.specs.declared.entry.Entry.{Entry}
-use Rattle.mn_world.specs.declared.entry.What.{What}
-use Rattle.mn_world.specs.declared.entry.What.TheVariants.{Begin, Issue, Called, Stopped, Restarted, Abandoned, Answered}
-use Rattle.mn_world.specs.Calls.{Begun, Call, call_in}
-use Rattle.mn_world.specs.Shown.{Seen, seen_at, seen_by}
-use Rattle.mn_world.proofs.Bytes.Seen.{nothing, seen_by_is}
-use Rattle.mn_world.proofs.Meaning.Tell.{one_read}
+use Rattle.mn_runs.specs.declared.entry.Entry.{Entry}
+use Rattle.mn_runs.specs.declared.entry.What.{What}
+use Rattle.mn_runs.specs.declared.entry.What.TheVariants.{Begin, Issue, Called, Stopped, Restarted, Abandoned, Answered}
+use Rattle.mn_runs.specs.Calls.{Begun, Call, call_in}
+use Rattle.mn_runs.specs.Seen.{Seen, seen_at, seen_by}
+use Rattle.mn_runs.proofs.Seen.{nothing, seen_by_is}
+use Rattle.mn_serial.proofs.Meaning.Tell.{one_read}
 use Rattle.mn_hist.specs.History.{CallerState, IsOnlyNote, Note, Noting, TellsCatalogRead, TellsNoteShows, noted_in, notes_in, with_catalog, with_seen}
 use Rattle.mn_hist.specs.Shown.{IsShownBy, IsUnshown, TellsShown, is_of_catalog}
 use Rattle.mn_hist.proofs.Loops.{reverse_at}

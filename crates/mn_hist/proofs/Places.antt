@@ -6,8 +6,9 @@ use Rattle.mn_base.specs.declared.ids.Addr.{Addr}
 use Rattle.mn_base.specs.declared.ids.NodeNo.{NodeNo}
 use Rattle.mn_base.proofs.Booleans.{both_parts, clash}
 use Rattle.mn_page.proofs.FrontFields.{is_at}
-use Rattle.mn_world.specs.Places.{Place, page_place}
-use Rattle.mn_world.specs.Shown.{Seen, IsCatalogRead}
+use Rattle.mn_runs.specs.Seen.{Place, Seen}
+use Rattle.mn_law.specs.Places.{page_place}
+use Rattle.mn_law.specs.Shown.{IsCatalogRead}
 use Rattle.mn_hist.specs.Shown.{TestDecides, is_of_catalog}
 
 decides_eq : (x y : ℕ) (T : Type 0) → (x ≡ y → T) → (T → x ≡ y) → TestDecides (nat_eq x y) T

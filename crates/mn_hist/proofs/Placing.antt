@@ -2,7 +2,7 @@
 use Rattle.std.proofs.Common.{◌≡◌, ℕ, zero, suc, ◌+◌, ◌<◌, ◌≤◌, ◌⊎◌, Bool, true, false, Option, Some, None, List, [], ◌∷◌, ◌++◌, length, map, refl, sym, ap, ◌∙◌, subst, inl, inr, arith, length-append, if◌then◌else◌}
 use Rattle.std.specs.Prelude.{slice_get, slice_set, get_or, is_none, IsSome, ◌&&◌}
 use Rattle.std.specs.List.{AllByRecursion}
-use Rattle.mn_world.specs.Log.{nobody}
+use Rattle.mn_runs.specs.Log.{nobody}
 use Rattle.std.proofs.lemmas.Option.{same_Some}
 use Rattle.mn_page.proofs.Grid.{all_at_place, all_split}
 use Rattle.mn_actors.specs.declared.actor.Actor.{Actor}
@@ -11,10 +11,10 @@ use Rattle.mn_actors.specs.Lines.{Line, is_client, is_node, stands_in}
 use Rattle.mn_actors.specs.Log.{entries_from, entries_of as entries_of_actor, IsManned, IsPlace, StandsAt}
 use Rattle.mn_base.specs.declared.ids.ClientNo.{ClientNo}
 use Rattle.mn_base.specs.declared.ids.NodeNo.{NodeNo}
-use Rattle.mn_world.specs.declared.entry.Entry.{Entry}
-use Rattle.mn_world.specs.Lists.{ClientState}
-use Rattle.mn_world.specs.Run.{entries_of}
-use Rattle.mn_world.proofs.Reading.Same.{client_same-refl}
+use Rattle.mn_runs.specs.declared.entry.Entry.{Entry}
+use Rattle.mn_runs.specs.Lists.{ClientState}
+use Rattle.mn_runs.specs.Protocol.{entries_of}
+use Rattle.mn_runs.proofs.Same.{client_same-refl}
 use Rattle.mn_cell.specs.Runs.{placed_from}
 use Rattle.mn_cell.specs.Station.{HasCaller}
 use Rattle.mn_cell.proofs.Running.{reverse_more}

@@ -4,7 +4,7 @@ use Rattle.std.specs.Option.{option_map}
 use Rattle.std.proofs.lemmas.Bool.{eqb-true}
 use Rattle.mn_base.specs.Ids.{tid_same}
 use Rattle.mn_base.specs.declared.ids.Tid.{Tid}
-use Rattle.mn_world.proofs.Reading.Same.{tid_same-true}
+use Rattle.mn_runs.proofs.Same.{tid_same-true}
 use Rattle.mn_hist.specs.declared.plans.Plan.{Plan}
 use Rattle.mn_hist.specs.Plans.{Planner, planner_among, planner_in}
 use Rattle.mn_hist.specs.Table.{kept_at}

@@ -10,15 +10,15 @@ use Rattle.mn_base.specs.declared.reply.Reply.{Reply}
 use Rattle.mn_base.proofs.Booleans.{clash}
 use Rattle.mn_mini.specs.Mini.{Mini, is_read}
 use Rattle.mn_mini.proofs.Fits.{unsome}
-use Rattle.mn_world.specs.declared.entry.Entry.{Entry}
-use Rattle.mn_world.specs.declared.entry.What.{What}
-use Rattle.mn_world.specs.declared.entry.What.TheVariants.{Begin, Issue, Called, Stopped, Restarted, Abandoned, Answered}
-use Rattle.mn_world.specs.Answers.{IsPlanBy, IsPlanOfOp}
-use Rattle.mn_world.specs.Calls.{Begun, Issued, client_entries, issue_in, issues_of, issue_named, under_way}
-use Rattle.mn_world.specs.History.{Placed, PlanOf, EntryPuts, has_past}
-use Rattle.mn_world.specs.Protocol.{Start}
-use Rattle.mn_world.specs.Run.{IsRun, Means}
-use Rattle.mn_world.proofs.Reading.Same.{tid_same-true}
+use Rattle.mn_runs.specs.declared.entry.Entry.{Entry}
+use Rattle.mn_runs.specs.declared.entry.What.{What}
+use Rattle.mn_runs.specs.declared.entry.What.TheVariants.{Begin, Issue, Called, Stopped, Restarted, Abandoned, Answered}
+use Rattle.mn_law.specs.Answers.{IsPlanBy, IsPlanOfOp}
+use Rattle.mn_runs.specs.Calls.{Begun, Issued, client_entries, issue_in, issues_of, issue_named, under_way}
+use Rattle.mn_serial.specs.History.{Placed, PlanOf, EntryPuts, has_past}
+use Rattle.mn_runs.specs.Protocol.{Start}
+use Rattle.mn_law.specs.Run.{IsRun, Means}
+use Rattle.mn_runs.proofs.Same.{tid_same-true}
 use Rattle.mn_hist.specs.Plans.{Planner}
 use Rattle.mn_hist.specs.Acts.{Act}
 use Rattle.mn_hist.specs.History.{begun_by, planner_after, planner_for, planner_of}

@@ -10,10 +10,10 @@ use Rattle.mn_base.specs.declared.answer.Answer.TheVariants.{Replied}
 use Rattle.mn_base.specs.declared.ids.ClientNo.{ClientNo}
 use Rattle.mn_base.specs.declared.reply.Reply.{Reply}
 use Rattle.mn_base.proofs.Naturals.{lt_true}
-use Rattle.mn_world.specs.declared.entry.Entry.{Entry}
-use Rattle.mn_world.specs.Calls.{Begun, client_entries, under_way}
-use Rattle.mn_world.specs.History.{Placed, placed_in, has_past, AnswerPuts}
-use Rattle.mn_world.specs.OneHistory.{Ascend}
+use Rattle.mn_runs.specs.declared.entry.Entry.{Entry}
+use Rattle.mn_runs.specs.Calls.{Begun, client_entries, under_way}
+use Rattle.mn_serial.specs.History.{Placed, placed_in, has_past, AnswerPuts}
+use Rattle.mn_serial.specs.OneHistory.{Ascend}
 use Rattle.mn_hist.specs.declared.acts.PlacedAct.{PlacedAct}
 use Rattle.mn_hist.specs.History.{placed_act, caller_state, AreActsOf, IsNotedPlace, IsPutInto, IsIndexIn, StandsInSet, AnswerIsInHistory, AnswerHasPlace, stands}
 use Rattle.mn_hist.proofs.Noted.{begun_is, noted_place}
@@ -97,7 +97,7 @@ pub idle_puts : (past : List Entry) (c : ClientNo) (answer : Answer) (placed : L
 idle_puts past c answer placed idle = not_under_way past c answer placed (under_way (client_entries c past)) (sym (begun_is c past) ∙ idle)
 
 standing_puts : (past : List Entry) (c : ClientNo) (begun : Begun) (reply : Reply) (placed : List Placed) (b : Bool) → has_past c begun.number placed ≡ b → b ≡ true → AnswerPuts past c (Some begun) (Replied reply) placed placed
-standing_puts past c begun reply placed b is true' = subst (λ t. MatchBool t (placed ≡ placed) ((place : ℕ) × Rattle.mn_world.specs.History.ReadPlace c past begun.op reply place × (placed ≡ placed_in (record { place = place; past = record { client = c; number = begun.number; op = begun.op; reply = reply } }) placed))) (sym (is ∙ true')) refl
+standing_puts past c begun reply placed b is true' = subst (λ t. MatchBool t (placed ≡ placed) ((place : ℕ) × Rattle.mn_serial.specs.History.ReadPlace c past begun.op reply place × (placed ≡ placed_in (record { place = place; past = record { client = c; number = begun.number; op = begun.op; reply = reply } }) placed))) (sym (is ∙ true')) refl
 
 pub stands_already : (past : List Entry) (c : ClientNo) (begun : Begun) (reply : Reply) (placed : List Placed) → (caller_state c past).begun ≡ Some begun → has_past c begun.number placed ≡ true → AnswerPuts past c (under_way (client_entries c past)) (Replied reply) placed placed
 stands_already past c begun reply placed is has = subst (λ o. AnswerPuts past c o (Replied reply) placed placed) (sym is ∙ begun_is c past) (standing_puts past c begun reply placed (has_past c begun.number placed) refl has)
@@ -113,17 +113,17 @@ puts_read past c begun reply placed old standing acts new place is none at has s
     record {
       next = placed_in (record { place = place; past = record { client = c; number = begun.number; op = begun.op; reply = reply } }) placed;
       puts = subst (λ o. AnswerPuts past c o (Replied reply) placed (placed_in (record { place = place; past = record { client = c; number = begun.number; op = begun.op; reply = reply } }) placed)) (sym is ∙ begun_is c past)
-          (subst (λ t. MatchBool t (placed_in (record { place = place; past = record { client = c; number = begun.number; op = begun.op; reply = reply } }) placed ≡ placed) ((place' : ℕ) × Rattle.mn_world.specs.History.ReadPlace c past begun.op reply place' × (placed_in (record { place = place; past = record { client = c; number = begun.number; op = begun.op; reply = reply } }) placed ≡ placed_in (record { place = place'; past = record { client = c; number = begun.number; op = begun.op; reply = reply } }) placed))) (sym none)
+          (subst (λ t. MatchBool t (placed_in (record { place = place; past = record { client = c; number = begun.number; op = begun.op; reply = reply } }) placed ≡ placed) ((place' : ℕ) × Rattle.mn_serial.specs.History.ReadPlace c past begun.op reply place' × (placed_in (record { place = place; past = record { client = c; number = begun.number; op = begun.op; reply = reply } }) placed ≡ placed_in (record { place = place'; past = record { client = c; number = begun.number; op = begun.op; reply = reply } }) placed))) (sym none)
           (place, noted_place c past begun.op reply place begun is (some_place has) at, refl));
       stands = λ d n. more d n ∙ (ap (λ t. (client_same c d && nat_eq begun.number n) || t) (st d n) ∙ sym (past_more d n p placed));
       are = acts_more acts new placed p are put;
     }
   where
-    some_place : AnswerHasPlace past c (Replied reply) placed → (p : ℕ) × Rattle.mn_world.specs.History.ReadPlace c past begun.op reply p
+    some_place : AnswerHasPlace past c (Replied reply) placed → (p : ℕ) × Rattle.mn_serial.specs.History.ReadPlace c past begun.op reply p
     some_place (next, puts) =
         let here : AnswerPuts past c (Some begun) (Replied reply) placed next = subst (λ o. AnswerPuts past c o (Replied reply) placed next) (sym (begun_is c past) ∙ is) puts in
-        let found : (p : ℕ) × Rattle.mn_world.specs.History.ReadPlace c past begun.op reply p × (next ≡ placed_in (record { place = p; past = record { client = c; number = begun.number; op = begun.op; reply = reply } }) placed) =
-        subst (λ t. MatchBool t (next ≡ placed) ((p : ℕ) × Rattle.mn_world.specs.History.ReadPlace c past begun.op reply p × (next ≡ placed_in (record { place = p; past = record { client = c; number = begun.number; op = begun.op; reply = reply } }) placed))) none here in
+        let found : (p : ℕ) × Rattle.mn_serial.specs.History.ReadPlace c past begun.op reply p × (next ≡ placed_in (record { place = p; past = record { client = c; number = begun.number; op = begun.op; reply = reply } }) placed) =
+        subst (λ t. MatchBool t (next ≡ placed) ((p : ℕ) × Rattle.mn_serial.specs.History.ReadPlace c past begun.op reply p × (next ≡ placed_in (record { place = p; past = record { client = c; number = begun.number; op = begun.op; reply = reply } }) placed))) none here in
         (found.0, found.1)
 
 -- What a program finds

@@ -20,14 +20,14 @@ use Rattle.mn_report.specs.Answers.{CanTell, CanTellLine}
 use Rattle.mn_report.specs.Report.{CanReport}
 use Rattle.mn_script.specs.declared.elements.ScriptClient.{ScriptClient}
 use Rattle.mn_script.specs.Script.{Script}
-use Rattle.mn_world.specs.declared.entry.Entry.{Entry}
-use Rattle.mn_world.specs.declared.entry.What.{What}
-use Rattle.mn_world.specs.declared.entry.What.TheVariants.{Begin, Issue, Called, Stopped, Restarted, Abandoned, Answered}
-use Rattle.mn_world.specs.Calls.{is_by, client_entries}
-use Rattle.mn_world.specs.History.{Placed, pasts_of, has_past}
-use Rattle.mn_world.specs.Protocol.{Start}
-use Rattle.mn_world.specs.Meaning.{OpenedRun, StandsAt, AnswersOp}
-use Rattle.mn_world.proofs.Reading.Same.{client_same-true}
+use Rattle.mn_runs.specs.declared.entry.Entry.{Entry}
+use Rattle.mn_runs.specs.declared.entry.What.{What}
+use Rattle.mn_runs.specs.declared.entry.What.TheVariants.{Begin, Issue, Called, Stopped, Restarted, Abandoned, Answered}
+use Rattle.mn_runs.specs.Calls.{is_by, client_entries}
+use Rattle.mn_serial.specs.History.{Placed, pasts_of, has_past}
+use Rattle.mn_runs.specs.Protocol.{Start}
+use Rattle.mn_serial.specs.Meaning.{OpenedRun, StandsAt, AnswersOp}
+use Rattle.mn_runs.proofs.Same.{client_same-true}
 use Rattle.mn_hist.specs.Audit.{answer_line_at, answers_from, doubts_from, op_numbers, ranked_as, report_of, said_after, said_by, said_in, versions_told}
 use Rattle.mn_hist.specs.Points.{points_met}
 use Rattle.mn_hist.proofs.Moved.{moved_is_move}

@@ -1,10 +1,10 @@
 -- Spots of entries in the order of their places.
 use Rattle.std.proofs.Common.{◌≡◌, ℕ, zero, suc, ◌+◌, ◌-◌, ◌<◌, ◌≤◌, Bool, true, false, List, [], ◌∷◌, ◌++◌, Vec, Global, length, map, drop, get_or, nat_eq, refl, sym, ap, ◌∙◌, subst, arith, if◌then◌else◌}
 use Rattle.std.specs.Prelude.{slice_set}
-use Rattle.mn_world.specs.declared.entry.Entry.{Entry}
-use Rattle.mn_world.specs.declared.log.Spot.{Spot}
-use Rattle.mn_world.specs.Log.{AreSpots, entry_at, log_of, nobody}
-use Rattle.mn_world.proofs.Logs.{at_place, map_at, map_long, map_more}
+use Rattle.mn_runs.specs.declared.entry.Entry.{Entry}
+use Rattle.mn_runs.specs.declared.log.Spot.{Spot}
+use Rattle.mn_runs.specs.Log.{AreSpots, entry_at, log_of, nobody}
+use Rattle.mn_runs.proofs.Logs.{at_place, map_at, map_long, map_more}
 use Rattle.mn_hist.proofs.Placing.{is_nobodys}
 
 -- Lists

@@ -9,15 +9,15 @@ use Rattle.mn_base.specs.declared.ids.NodeNo.{NodeNo}
 use Rattle.mn_base.specs.declared.ids.Tid.{Tid}
 use Rattle.mn_base.specs.declared.op.Op.{Op}
 use Rattle.mn_mini.specs.Mini.{Mini}
-use Rattle.mn_world.specs.declared.commit_reader.CommittedMini.{CommittedMini}
-use Rattle.mn_world.specs.declared.entry.Entry.{Entry}
-use Rattle.mn_world.specs.declared.entry.What.{What}
-use Rattle.mn_world.specs.declared.entry.What.TheVariants.{Begin, Issue, Called, Stopped, Restarted, Abandoned, Answered}
-use Rattle.mn_world.specs.Calls.{Call, Issued, call_in, client_entries, is_by, issue_in}
-use Rattle.mn_world.specs.CommitReader.{issued_of}
-use Rattle.mn_world.specs.Commits.{committed_at, committed_by}
-use Rattle.mn_world.specs.History.{Placed}
-use Rattle.mn_world.specs.Shown.{seen_at, seen_by}
+use Rattle.mn_commits.specs.declared.commit_reader.CommittedMini.{CommittedMini}
+use Rattle.mn_runs.specs.declared.entry.Entry.{Entry}
+use Rattle.mn_runs.specs.declared.entry.What.{What}
+use Rattle.mn_runs.specs.declared.entry.What.TheVariants.{Begin, Issue, Called, Stopped, Restarted, Abandoned, Answered}
+use Rattle.mn_runs.specs.Calls.{Call, Issued, call_in, client_entries, is_by, issue_in}
+use Rattle.mn_commits.specs.CommitReader.{issued_of}
+use Rattle.mn_runs.specs.Commits.{committed_at, committed_by}
+use Rattle.mn_serial.specs.History.{Placed}
+use Rattle.mn_runs.specs.Seen.{seen_at, seen_by}
 use Rattle.mn_report.specs.declared.lines.LineAnswer.{LineAnswer}
 use Rattle.mn_hist.specs.declared.acts.PlacedAct.{PlacedAct}
 use Rattle.mn_hist.specs.declared.sayings.Kept.{Kept}

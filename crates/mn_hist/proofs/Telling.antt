@@ -1,8 +1,8 @@
 -- What a reader of a log tells, with one more entry.
 use Rattle.std.proofs.Common.{List, ◌∷◌}
-use Rattle.mn_world.specs.declared.entry.Entry.{Entry}
-use Rattle.mn_world.specs.Commits.{committed_by}
-use Rattle.mn_world.specs.History.{Placed}
+use Rattle.mn_runs.specs.declared.entry.Entry.{Entry}
+use Rattle.mn_runs.specs.Commits.{committed_by}
+use Rattle.mn_serial.specs.History.{Placed}
 use Rattle.mn_hist.specs.declared.history.HistoryReader.{HistoryReader}
 use Rattle.mn_hist.specs.History.{AreCallerStates, KnowsPlanners, EntryIsInHistory}
 use Rattle.mn_hist.specs.Told.{ReaderHasRead, ReaderHasTold}

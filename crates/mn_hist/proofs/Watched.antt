@@ -10,11 +10,11 @@ use Rattle.mn_base.specs.declared.ids.Tid.{Tid}
 use Rattle.mn_base.proofs.Booleans.{both_parts, clash}
 use Rattle.mn_base.proofs.Lists.{set_at}
 use Rattle.mn_page.proofs.Alike.{get-set_other}
-use Rattle.mn_world.specs.declared.entry.Entry.{Entry}
-use Rattle.mn_world.specs.declared.entry.What.{What}
-use Rattle.mn_world.specs.declared.entry.What.TheVariants.{Begin, Issue, Called, Stopped, Restarted, Abandoned, Answered}
-use Rattle.mn_world.specs.Calls.{Begun, is_by, client_entries, under_way, under_way_after}
-use Rattle.mn_world.proofs.Reading.Same.{client_same-refl, client_same-true, tid_same-true}
+use Rattle.mn_runs.specs.declared.entry.Entry.{Entry}
+use Rattle.mn_runs.specs.declared.entry.What.{What}
+use Rattle.mn_runs.specs.declared.entry.What.TheVariants.{Begin, Issue, Called, Stopped, Restarted, Abandoned, Answered}
+use Rattle.mn_runs.specs.Calls.{Begun, is_by, client_entries, under_way, under_way_after}
+use Rattle.mn_runs.proofs.Same.{client_same-refl, client_same-true, tid_same-true}
 use Rattle.mn_script.specs.declared.elements.Point.{Point}
 use Rattle.mn_hist.specs.declared.points.Step.{Step}
 use Rattle.mn_hist.specs.declared.points.TryKey.{TryKey}

@@ -21,13 +21,13 @@ use Rattle.mn_report.specs.declared.lines.VersionLine.{VersionLine}
 use Rattle.mn_report.specs.declared.report.Report.{Report}
 use Rattle.mn_script.specs.declared.elements.ScriptClient.{ScriptClient}
 use Rattle.mn_script.specs.Script.{Script}
-use Rattle.mn_world.specs.declared.entry.Entry.{Entry}
-use Rattle.mn_world.specs.declared.entry.What.{What}
-use Rattle.mn_world.specs.declared.entry.What.TheVariants.{Begin, Answered}
-use Rattle.mn_world.specs.Calls.{client_entries}
-use Rattle.mn_world.specs.History.{Placed, pasts_of, has_past, IsHistory}
-use Rattle.mn_world.specs.OneHistory.{IsOneHistory}
-use Rattle.mn_world.specs.Protocol.{Start}
+use Rattle.mn_runs.specs.declared.entry.Entry.{Entry}
+use Rattle.mn_runs.specs.declared.entry.What.{What}
+use Rattle.mn_runs.specs.declared.entry.What.TheVariants.{Begin, Answered}
+use Rattle.mn_runs.specs.Calls.{client_entries}
+use Rattle.mn_serial.specs.History.{Placed, pasts_of, has_past, IsHistory}
+use Rattle.mn_serial.specs.OneHistory.{IsOneHistory}
+use Rattle.mn_runs.specs.Protocol.{Start}
 use Rattle.mn_hist.specs.Acts.{Act}
 use Rattle.mn_hist.specs.Points.{points_met}
 

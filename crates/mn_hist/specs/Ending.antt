@@ -2,10 +2,10 @@
 use Rattle.std.specs.Prelude.{◌≡◌, Bool, List}
 use Rattle.mn_base.specs.History.{store_after}
 use Rattle.mn_base.specs.Store.{Store}
-use Rattle.mn_world.specs.declared.entry.Entry.{Entry}
-use Rattle.mn_world.specs.History.{Placed, pasts_of, IsHistory}
-use Rattle.mn_world.specs.OneHistory.{IsOneHistory}
-use Rattle.mn_world.specs.Protocol.{Start}
+use Rattle.mn_runs.specs.declared.entry.Entry.{Entry}
+use Rattle.mn_serial.specs.History.{Placed, pasts_of, IsHistory}
+use Rattle.mn_serial.specs.OneHistory.{IsOneHistory}
+use Rattle.mn_runs.specs.Protocol.{Start}
 use Rattle.mn_hist.specs.declared.history.Ending.{Ending}
 use Rattle.mn_hist.specs.declared.acts.PlacedAct.{PlacedAct}
 use Rattle.mn_hist.specs.Acts.{done_from}

@@ -13,15 +13,15 @@ use Rattle.mn_base.specs.declared.op.Op.TheVariants.{Scan}
 use Rattle.mn_base.specs.declared.reply.Reply.{Reply}
 use Rattle.mn_base.specs.declared.reply.Reply.TheVariants.{Pairs}
 use Rattle.mn_mini.specs.Mini.{Mini, is_read}
-use Rattle.mn_world.specs.declared.entry.Entry.{Entry}
-use Rattle.mn_world.specs.declared.entry.What.{What}
-use Rattle.mn_world.specs.declared.entry.What.TheVariants.{Begin, Issue, Answered}
-use Rattle.mn_world.specs.Calls.{is_by, client_entries, Issued, issues_of, issue_named, Begun}
-use Rattle.mn_world.specs.Calls.{under_way}
-use Rattle.mn_world.specs.declared.commit_reader.CommittedMini.{CommittedMini}
-use Rattle.mn_world.specs.CommitReader.{issued_of}
-use Rattle.mn_world.specs.History.{Placed, has_past, AnswerPuts, EntryPuts}
-use Rattle.mn_world.specs.Shown.{Seen, seen_at}
+use Rattle.mn_runs.specs.declared.entry.Entry.{Entry}
+use Rattle.mn_runs.specs.declared.entry.What.{What}
+use Rattle.mn_runs.specs.declared.entry.What.TheVariants.{Begin, Issue, Answered}
+use Rattle.mn_runs.specs.Calls.{is_by, client_entries, Issued, issues_of, issue_named, Begun}
+use Rattle.mn_runs.specs.Calls.{under_way}
+use Rattle.mn_commits.specs.declared.commit_reader.CommittedMini.{CommittedMini}
+use Rattle.mn_commits.specs.CommitReader.{issued_of}
+use Rattle.mn_serial.specs.History.{Placed, has_past, AnswerPuts, EntryPuts}
+use Rattle.mn_runs.specs.Seen.{Seen, seen_at}
 use Rattle.mn_hist.specs.declared.acts.PlacedAct.{PlacedAct}
 use Rattle.mn_hist.specs.declared.plans.Plans.{Plans}
 use Rattle.mn_hist.specs.Acts.{Act, act_of}

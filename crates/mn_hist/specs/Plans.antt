@@ -4,8 +4,8 @@ use Rattle.std.specs.HashMap.{get}
 use Rattle.std.specs.Option.{option_map}
 use Rattle.mn_base.specs.declared.ids.ClientNo.{ClientNo}
 use Rattle.mn_base.specs.declared.ids.Tid.{Tid}
-use Rattle.mn_world.specs.Calls.{Begun}
-use Rattle.mn_world.specs.Standing.{id_key, keys_same}
+use Rattle.mn_runs.specs.Calls.{Begun}
+use Rattle.mn_commits.specs.Standing.{id_key, keys_same}
 use Rattle.mn_hist.specs.declared.plans.Begun.{Begun as Held}
 use Rattle.mn_hist.specs.declared.plans.Plan.{Plan}
 use Rattle.mn_hist.specs.declared.plans.Plans.{Plans}

@@ -12,10 +12,10 @@ use Rattle.mn_mini.specs.declared.request.Request.TheVariants as Ask
 use Rattle.mn_mini.specs.declared.reply.NodeReply.TheVariants as Say
 use Rattle.mn_script.specs.declared.elements.Point.{Point}
 use Rattle.mn_script.specs.declared.elements.Point.TheVariants.{Kill, Stop}
-use Rattle.mn_world.specs.declared.entry.Entry.{Entry}
-use Rattle.mn_world.specs.declared.entry.What.{What}
-use Rattle.mn_world.specs.declared.entry.What.TheVariants.{Called, Stopped}
-use Rattle.mn_world.specs.Calls.{is_at, is_by, client_entries, under_way}
+use Rattle.mn_runs.specs.declared.entry.Entry.{Entry}
+use Rattle.mn_runs.specs.declared.entry.What.{What}
+use Rattle.mn_runs.specs.declared.entry.What.TheVariants.{Called, Stopped}
+use Rattle.mn_runs.specs.Calls.{is_at, is_by, client_entries, under_way}
 
 -- What a step is to crash points
 

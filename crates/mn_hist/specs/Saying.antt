@@ -4,7 +4,7 @@ use Rattle.std.specs.Prelude.{ℕ, ◌≡◌, Bool, true, false, List}
 use Rattle.mn_base.specs.declared.ids.ClientNo.{ClientNo}
 use Rattle.mn_report.specs.declared.lines.LineAnswer.{LineAnswer}
 use Rattle.mn_report.specs.declared.lines.LineAnswer.TheVariants as line
-use Rattle.mn_world.specs.declared.entry.Entry.{Entry}
+use Rattle.mn_runs.specs.declared.entry.Entry.{Entry}
 use Rattle.mn_hist.specs.declared.sayings.Kept.{Kept}
 use Rattle.mn_hist.specs.declared.sayings.Kept.TheVariants.{Never, Died, InDoubt, Answered}
 use Rattle.mn_hist.specs.Audit.{is_said_in_doubt, said_by}

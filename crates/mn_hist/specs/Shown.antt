@@ -17,8 +17,9 @@ use Rattle.mn_page.specs.declared.page.Page.{Page}
 use Rattle.mn_page.specs.Forest.{heads_in}
 use Rattle.mn_page.specs.Grammar.{SpellsPage}
 use Rattle.mn_page.specs.Holds.{page_covers, page_serves}
-use Rattle.mn_world.specs.declared.entry.Entry.{Entry}
-use Rattle.mn_world.specs.Shown.{Seen, seen_in, IsCatalogRead, CatalogReplies, ReadShows}
+use Rattle.mn_runs.specs.declared.entry.Entry.{Entry}
+use Rattle.mn_runs.specs.Seen.{Seen, seen_in}
+use Rattle.mn_law.specs.Shown.{IsCatalogRead, CatalogReplies, ReadShows}
 use Rattle.mn_hist.specs.declared.shown.Read.{Read}
 
 -- the read as a client's list shows it

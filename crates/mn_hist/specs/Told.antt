@@ -1,8 +1,8 @@
 -- What a reader of a log has read, and the history that it tells.
 use Rattle.std.specs.Prelude.{◌≡◌, List, length}
-use Rattle.mn_world.specs.declared.entry.Entry.{Entry}
-use Rattle.mn_world.specs.CommitReader.{HasRead}
-use Rattle.mn_world.specs.History.{Placed, IsHistory}
+use Rattle.mn_runs.specs.declared.entry.Entry.{Entry}
+use Rattle.mn_commits.specs.CommitReader.{HasRead}
+use Rattle.mn_serial.specs.History.{Placed, IsHistory}
 use Rattle.mn_hist.specs.declared.history.HistoryReader.{HistoryReader}
 use Rattle.mn_hist.specs.History.{AreCallerStates, KnowsPlanners, StandsInSet, AreActsOf}
 use Rattle.mn_hist.specs.Saying.{TellsAnswers}

@@ -9,11 +9,11 @@ use Rattle.mn_base.specs.declared.ids.ClientNo.{ClientNo}
 use Rattle.mn_base.specs.declared.ids.Tid.{Tid}
 use Rattle.mn_script.specs.declared.elements.Point.{Point}
 use Rattle.mn_script.specs.declared.elements.Point.TheVariants.{Kill, Stop}
-use Rattle.mn_world.specs.declared.entry.Entry.{Entry}
-use Rattle.mn_world.specs.declared.entry.What.{What}
-use Rattle.mn_world.specs.declared.entry.What.TheVariants.{Begin, Answered}
-use Rattle.mn_world.specs.Calls.{client_entries, under_way}
-use Rattle.mn_world.specs.Standing.{id_key, keys_same}
+use Rattle.mn_runs.specs.declared.entry.Entry.{Entry}
+use Rattle.mn_runs.specs.declared.entry.What.{What}
+use Rattle.mn_runs.specs.declared.entry.What.TheVariants.{Begin, Answered}
+use Rattle.mn_runs.specs.Calls.{client_entries, under_way}
+use Rattle.mn_commits.specs.Standing.{id_key, keys_same}
 use Rattle.mn_hist.specs.declared.points.Step.{Step}
 use Rattle.mn_hist.specs.declared.points.TryKey.{TryKey}
 use Rattle.mn_hist.specs.declared.points.Watch.{Watch}

@@ -4,11 +4,11 @@ ghost use Rattle.std.specs.Prelude.{IfOk, OnOk, nat_eq};
 ghost use Rattle.mn_base.specs.Ids.{client_same};
 ghost use Rattle.mn_base.specs.declared.ids.ClientNo.{ClientNo as Who};
 ghost use Rattle.mn_hist.specs.Acts.{ChangesNothing, done_by, done_from};
-ghost use Rattle.mn_world.specs.History.{Placed};
+ghost use Rattle.mn_serial.specs.History.{Placed};
 ghost use Rattle.mn_hist.specs.History.{AreActsOf, IsIndexIn, stands, IsPutInto, acts_in};
 ghost use Rattle.mn_base.specs.History.{store_after};
 ghost use Rattle.mn_base.specs.Store.{applied};
-ghost use Rattle.mn_world.specs.OneHistory.{Ascend};
+ghost use Rattle.mn_serial.specs.OneHistory.{Ascend};
 
 use crate::table::Table;
 use mn_base::{ClientNo, History, NoMemory, Op, Past, SharedOp, TryCopy};

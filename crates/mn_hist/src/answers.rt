@@ -3,7 +3,7 @@ ghost use Rattle.std.specs.Prelude.{◌≡◌, ◌++◌, ◌&&◌, ◌∷◌, �
 ghost use Rattle.std.specs.Prelude.{nat_eq, map, flat_map, length};
 ghost use Rattle.mn_base.specs.Ids.{client_same};
 ghost use Rattle.mn_base.specs.declared.ids.ClientNo.{ClientNo as Who};
-ghost use Rattle.mn_world.specs.declared.entry.Entry.{Entry as Step};
+ghost use Rattle.mn_runs.specs.declared.entry.Entry.{Entry as Step};
 ghost use Rattle.mn_hist.specs.Audit.{answer_line_at, answers_from, op_numbers, is_said_in_doubt};
 ghost use Rattle.mn_hist.specs.Audit.{doubt_at};
 ghost use Rattle.mn_hist.specs.Audit.{doubt_lines, doubts_from};
@@ -15,8 +15,8 @@ use crate::sayings::{AllSaid, Kept, kept_answer};
 use crate::table::Table;
 use mn_base::{ClientNo, Name, NoMemory, TryCopy};
 use mn_report::{AnswerLine, AnswerLines, DoubtLine, LineAnswer, Outcomes};
+use mn_runs::{Entry, What};
 use mn_script::ScriptClient;
-use mn_world::{Entry, What};
 use std::alloc::Global;
 
 /// Notes what the entry says of an operation of its client.

@@ -1,9 +1,8 @@
 //! The audit of a log: the report on what a script's operations came to.
 ghost use Rattle.std.specs.Prelude.{◌≡◌, IfOk, map};
 ghost use Rattle.mn_report.specs.Report.{CanReport};
-ghost use Rattle.mn_world.specs.Meaning.{OpenedRun};
-ghost use Rattle.mn_world.specs.Protocol.{Start};
-ghost use Rattle.mn_world.specs.Run.{entries_of};
+ghost use Rattle.mn_serial.specs.Meaning.{OpenedRun};
+ghost use Rattle.mn_runs.specs.Protocol.{Start, entries_of};
 ghost use Rattle.mn_hist.specs.Audit.{client_name, ranked_act, IsAudit};
 ghost use Rattle.mn_hist.specs.History.{acts_in};
 
@@ -15,8 +14,8 @@ use crate::versions::versions_of;
 use mn_base::{ClientNo, Name, NoMemory, TryCopy};
 use mn_plain::Store;
 use mn_report::{Flags, Ranked, Ranks, Report};
+use mn_runs::Log;
 use mn_script::{Script, ScriptClient};
-use mn_world::Log;
 use std::alloc::Global;
 
 /// The name of a client. NoMemory: there was no memory for it, or the script has no such client.

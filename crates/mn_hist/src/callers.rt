@@ -2,17 +2,17 @@
 ghost use Rattle.std.specs.Option.{option_map};
 ghost use Rattle.std.specs.Prelude.{◌≡◌, ◌⊎◌, ◌<◌, ◌∷◌, List, Some, length, replicate, slice_get};
 ghost use Rattle.std.specs.Prelude.{IfOk, OnOk, MatchOption, ⊤, reverse};
-ghost use Rattle.mn_world.specs.Shown.{seen_at};
+ghost use Rattle.mn_runs.specs.Seen.{seen_at};
 ghost use Rattle.mn_hist.specs.History.{CallerState, idle, notes_in, with_catalog, with_seen};
 ghost use Rattle.mn_hist.specs.History.{TellsNoteShows, state_after, IsLastNote, IsFirstNote};
 ghost use Rattle.mn_hist.specs.History.{IsOnlyNote, IsNotedPlace, AreCallerStates};
-ghost use Rattle.mn_world.specs.declared.entry.Entry.{Entry as Step};
+ghost use Rattle.mn_runs.specs.declared.entry.Entry.{Entry as Step};
 ghost use Rattle.mn_hist.specs.Plans.{begun_of};
 
 use crate::plans::Begun;
 use crate::shown::{KnownCatalog, Read, is_at_catalog, may_bring, reads_catalog, shows};
 use mn_base::{ClientNo, NoMemory, Op, Reply};
-use mn_world::{Entry, What};
+use mn_runs::{Entry, What};
 use std::alloc::Global;
 use std::marker::Model;
 use std::rc::Rc;
@@ -28,7 +28,7 @@ pub struct Noted<'a> {
 
 impl<'a> Model for Noted<'a> {
     ghost use Rattle.std.specs.Option.{option_map};
-    ghost use Rattle.mn_world.specs.Shown.{seen_at};
+    ghost use Rattle.mn_runs.specs.Seen.{seen_at};
     ghost use Rattle.mn_hist.specs.History.{Noting};
 
     ghost Value = { Noting };

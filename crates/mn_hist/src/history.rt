@@ -1,24 +1,24 @@
 //! The operations of a log in order of place.
 ghost use Rattle.std.specs.Option.{option_map};
 ghost use Rattle.std.specs.Prelude.{◌≡◌, ◌∷◌, [], List, Option, Some, None, length, IfOk, OnOk};
-ghost use Rattle.mn_world.specs.History.{Placed, IsHistory, pasts_of};
-ghost use Rattle.mn_world.specs.declared.entry.Entry.{Entry as Step};
+ghost use Rattle.mn_serial.specs.History.{Placed, IsHistory, pasts_of};
+ghost use Rattle.mn_runs.specs.declared.entry.Entry.{Entry as Step};
 ghost use Rattle.mn_hist.specs.Saying.{TellsAnswers};
 ghost use Rattle.mn_hist.specs.History.{AnswerHasPlace, EntryHasPlace, StandsInSet, AreActsOf};
 ghost use Rattle.mn_hist.specs.History.{AnswerIsInHistory, KnowsPlanners, IsIssuedUnderId};
 ghost use Rattle.mn_hist.specs.History.{CommitIsInHistory, CommitsAreInHistory, AreCallerStates};
 ghost use Rattle.mn_hist.specs.History.{planner_for, EntryIsInHistory};
-ghost use Rattle.mn_world.specs.Protocol.{Start};
-ghost use Rattle.mn_world.specs.Run.{IsRun, entries_of};
+ghost use Rattle.mn_runs.specs.Protocol.{Start, entries_of};
+ghost use Rattle.mn_law.specs.Run.{IsRun};
 ghost use Rattle.mn_hist.specs.Plans.{planner_kept};
 ghost use Rattle.mn_hist.specs.Told.{ReaderHasRead, ReaderHasTold};
 ghost use Rattle.mn_hist.specs.Ending.{IsEndingOf, TellsHistory};
 ghost use Rattle.mn_base.specs.Store.{Store as Versions};
-ghost use Rattle.mn_world.specs.CommitReader.{issued_of};
-ghost use Rattle.mn_world.specs.Commits.{committed_by};
-ghost use Rattle.mn_world.specs.declared.commit_reader.CommittedMini.{CommittedMini as Committed};
-ghost use Rattle.mn_world.specs.Meaning.{OpenedRun};
-ghost use Rattle.mn_world.specs.OneHistory.{Ascend, IsOneHistory};
+ghost use Rattle.mn_commits.specs.CommitReader.{issued_of};
+ghost use Rattle.mn_runs.specs.Commits.{committed_by};
+ghost use Rattle.mn_commits.specs.declared.commit_reader.CommittedMini.{CommittedMini as Committed};
+ghost use Rattle.mn_serial.specs.Meaning.{OpenedRun};
+ghost use Rattle.mn_serial.specs.OneHistory.{Ascend, IsOneHistory};
 
 use crate::acts::{
     Act, PlacedAct, all_done, follow_all, is_standing, may_change, note_standing, put,
@@ -29,11 +29,10 @@ use crate::plans::Plans;
 use crate::sayings::AllSaid;
 use crate::table::Table;
 use mn_base::{Answer, ClientNo, History, NoMemory, Tid, TryCopy};
+use mn_commits::{CommitReader, CommittedMini};
 use mn_plain::Store;
-use mn_world::{
-    CommitReader, CommittedMini, Entry, Log, What, history_is_one, runs_are_one_history,
-    runs_have_history,
-};
+use mn_runs::{Entry, Log, What};
+use mn_serial::{history_is_one, runs_are_one_history, runs_have_history};
 use std::alloc::Global;
 
 /// The operation of a plan of this id. NoMemory: none is known, as for no plan of a run.

@@ -1,7 +1,7 @@
 //! The lists of a run's clients and coordinators.
 ghost use Rattle.std.specs.Prelude.{◌≡◌};
 
-use mn_world::ClientList;
+use mn_runs::ClientList;
 use std::marker::Model;
 
 /// The list of each client and recovery coordinator, from number 0 on. Contracts see them as a
@@ -13,7 +13,7 @@ pub struct ClientLists {
 
 impl Model for ClientLists {
     ghost use Rattle.std.specs.Prelude.{List};
-    ghost use Rattle.mn_world.specs.Lists.{ClientState};
+    ghost use Rattle.mn_runs.specs.Lists.{ClientState};
 
     ghost Value = { List ClientState };
 

@@ -2,13 +2,13 @@
 ghost use Rattle.std.specs.Prelude.{◌≡◌, ◌<◌, ◌+◌, ◌∷◌, [], ℕ, List, Option, map, length};
 ghost use Rattle.std.specs.Prelude.{get_or, IfOk, OnOk};
 ghost use Rattle.mn_cell.specs.Runs.{placed_from};
-ghost use Rattle.mn_world.specs.Log.{entry_at, log_of, nobody};
-ghost use Rattle.mn_world.specs.declared.entry.Entry.{Entry as Step};
+ghost use Rattle.mn_runs.specs.Log.{entry_at, log_of, nobody};
+ghost use Rattle.mn_runs.specs.declared.entry.Entry.{Entry as Step};
 ghost use Rattle.mn_hist.specs.Merging.{AreOneLog, HaveCallers, Hold, put_at, put_list, put_lists};
 
 use crate::lists::ClientLists;
 use mn_base::NoMemory;
-use mn_world::{Entry, Log, Spot};
+use mn_runs::{Entry, Log, Spot};
 use std::alloc::Global;
 
 /// Where no entry stands.

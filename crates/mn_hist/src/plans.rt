@@ -7,7 +7,7 @@ ghost use Rattle.mn_hist.specs.Plans.{begun_of, planner_in, planner_kept};
 
 use crate::table::Table;
 use mn_base::{ClientNo, NoMemory, SharedOp, Tid};
-use mn_world::{IdKey, id_key};
+use mn_commits::{IdKey, id_key};
 use std::alloc::Global;
 use std::collections::HashMap;
 

@@ -5,17 +5,18 @@ ghost use Rattle.std.specs.Option.{option_map, option_map_or};
 ghost use Rattle.mn_base.specs.Ids.{client_same, tid_same};
 ghost use Rattle.mn_base.specs.declared.ids.ClientNo.{ClientNo as Who};
 ghost use Rattle.mn_base.specs.declared.ids.Tid.{Tid as Id};
-ghost use Rattle.mn_world.specs.declared.entry.Entry.{Entry as Past};
-ghost use Rattle.mn_world.specs.Run.{entries_of};
+ghost use Rattle.mn_runs.specs.declared.entry.Entry.{Entry as Past};
+ghost use Rattle.mn_runs.specs.Protocol.{entries_of};
 ghost use Rattle.mn_hist.specs.Points.{voted_id, may_stop, asked_in, with_met, points_met};
 ghost use Rattle.mn_hist.specs.Watching.{step_fits, StepMeetsPoint, number_after, try_key};
 ghost use Rattle.mn_hist.specs.Watching.{votes_kept};
 ghost use Rattle.mn_hist.specs.Watching.{IsWatchOf, TellsPointsMet};
 
 use mn_base::{ClientNo, NoMemory, NodeNo, StopAt, Tid};
+use mn_commits::{IdKey, id_key};
 use mn_mini::{NodeReply, Request};
+use mn_runs::{Entry, Log, What};
 use mn_script::Point;
-use mn_world::{Entry, IdKey, Log, What, id_key};
 use std::alloc::Global;
 use std::collections::HashMap;
 

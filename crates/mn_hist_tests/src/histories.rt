@@ -11,8 +11,8 @@ use mn_mini::{
 use mn_page::CatEntry;
 use mn_plain::Store;
 use mn_report::{LineAnswer, Report};
+use mn_runs::{Entry, Log, What};
 use mn_script::read_script;
-use mn_world::{Entry, Log, What};
 use std::alloc::Global;
 use std::test::Fail;
 

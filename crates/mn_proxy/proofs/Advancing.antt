@@ -11,10 +11,11 @@ use Rattle.mn_page.specs.declared.entry.CatEntry.{CatEntry}
 use Rattle.mn_base.specs.declared.op.Step.{Step}
 use Rattle.mn_scan.specs.Scan.{ScanState, may_be_leaf}
 use Rattle.mn_txn.specs.Tries.{FreeSlotsAreLeft, TriesShowCauses, WornPagesShow}
-use Rattle.mn_world.specs.declared.entry.Entry.{Entry}
-use Rattle.mn_world.specs.Calls.{since_begin}
-use Rattle.mn_world.specs.Clients.{is_plan}
-use Rattle.mn_world.specs.Shown.{ScanShows, Seen, seen_in}
+use Rattle.mn_runs.specs.declared.entry.Entry.{Entry}
+use Rattle.mn_runs.specs.Calls.{since_begin}
+use Rattle.mn_runs.specs.Clients.{is_plan}
+use Rattle.mn_law.specs.Shown.{ScanShows}
+use Rattle.mn_runs.specs.Seen.{Seen, seen_in}
 use Rattle.mn_work.specs.declared.attempt.Attempt.{Attempt}
 use Rattle.mn_work.specs.declared.child.Child.{Child}
 use Rattle.mn_proxy.specs.declared.errand.Purpose.TheVariants as by

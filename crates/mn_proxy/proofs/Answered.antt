@@ -3,12 +3,12 @@ use Rattle.std.proofs.Common.{◌≡◌, ℕ, ◌++◌, List, [], ◌∷◌, Opt
 use Rattle.mn_base.specs.declared.answer.Answer.{Answer}
 use Rattle.mn_base.specs.declared.answer.Answer.TheVariants as answers
 use Rattle.mn_base.specs.declared.op.Op.{Op}
-use Rattle.mn_world.specs.declared.entry.Entry.{Entry}
-use Rattle.mn_world.specs.declared.entry.What.{What}
-use Rattle.mn_world.specs.declared.entry.What.TheVariants.{Abandoned, Answered, Begin, Called, Issue, Restarted, Stopped}
-use Rattle.mn_world.specs.Answers.{IsSettled, IsShownFor, ShowsAnswer}
-use Rattle.mn_world.specs.Calls.{Begun, begun_in, begun_of, issue_in, since_begin, under_way, under_way_after}
-use Rattle.mn_world.specs.Clients.{last_number}
+use Rattle.mn_runs.specs.declared.entry.Entry.{Entry}
+use Rattle.mn_runs.specs.declared.entry.What.{What}
+use Rattle.mn_runs.specs.declared.entry.What.TheVariants.{Abandoned, Answered, Begin, Called, Issue, Restarted, Stopped}
+use Rattle.mn_law.specs.Answers.{IsSettled, IsShownFor, ShowsAnswer}
+use Rattle.mn_runs.specs.Calls.{Begun, begun_in, begun_of, issue_in, since_begin, under_way, under_way_after}
+use Rattle.mn_runs.specs.Clients.{last_number}
 use Rattle.mn_proxy.specs.declared.step.ProxyStep.TheVariants as steps
 use Rattle.mn_proxy.specs.Agrees.{Enters, IsOwnLast, IsUnderWay, MayStep, MayWant}
 use Rattle.mn_proxy.specs.State.{ProxyState}

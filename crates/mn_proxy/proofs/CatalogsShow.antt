@@ -28,15 +28,15 @@ use Rattle.mn_page.specs.Forest.{heads_in}
 use Rattle.mn_page.specs.Grammar.{IsEntry}
 use Rattle.mn_page.specs.Space.{catalog_size, catalog_start}
 use Rattle.mn_scan.specs.Scan.{ScanState, key_at, new_scan}
-use Rattle.mn_world.specs.declared.entry.Entry.{Entry}
-use Rattle.mn_world.specs.Answers.{MayBeKept, MeetsFault, Reached, ReachesAddr, asks_catalog, asks_for_catalog}
-use Rattle.mn_world.specs.Answers.Reached.{by_root}
-use Rattle.mn_world.specs.Calls.{Call, call_in, calls_of}
-use Rattle.mn_world.specs.Places.{catalog_place}
-use Rattle.mn_world.specs.Shown.{CatalogReplies, CatalogShows, IsCatalogRead, Seen, SeesCatalog, ShowsCatalog}
-use Rattle.mn_world.specs.Shown.{seen_at, seen_in}
-use Rattle.mn_world.proofs.Reading.Gathered.{gathered_stays}
-use Rattle.mn_world.proofs.Reading.Sees.{seen_in-cons}
+use Rattle.mn_runs.specs.declared.entry.Entry.{Entry}
+use Rattle.mn_law.specs.Answers.{MayBeKept, MeetsFault, Reached, ReachesAddr, asks_catalog, asks_for_catalog}
+use Rattle.mn_law.specs.Answers.Reached.{by_root}
+use Rattle.mn_runs.specs.Calls.{Call, call_in, calls_of}
+use Rattle.mn_law.specs.Places.{catalog_place}
+use Rattle.mn_law.specs.Shown.{CatalogReplies, CatalogShows, IsCatalogRead, SeesCatalog, ShowsCatalog}
+use Rattle.mn_runs.specs.Seen.{Seen, seen_at, seen_in}
+use Rattle.mn_law.proofs.Gathered.{gathered_stays}
+use Rattle.mn_law.proofs.Sees.{seen_in-cons}
 use Rattle.mn_work.specs.declared.attempt.Attempt.{Attempt}
 use Rattle.mn_work.specs.declared.child.Child.{Child}
 use Rattle.mn_work.specs.declared.known.Known.{Known}

@@ -29,15 +29,15 @@ use Rattle.mn_page.specs.Forest.{entry_head, heads_in}
 use Rattle.mn_page.specs.Grammar.{SpellsPage, entry_bytes, padded, page_bytes}
 use Rattle.mn_page.specs.Space.{count_size, count_start, entry_size, entry_start, slot_start}
 use Rattle.mn_path.specs.Walk.{front_of, is_on_path}
-use Rattle.mn_world.specs.Answers.{IsPageAtFault, MeetsFault, ReachesAddr, ShowsBytes, is_copying}
-use Rattle.mn_world.specs.Clients.{is_plan}
-use Rattle.mn_world.specs.Growth.{node_no}
-use Rattle.mn_world.specs.Needs.{NeedsSlots, ReadsTree, WritesOld}
-use Rattle.mn_world.specs.Places.{Place, catalog_node, entry_place, number_size, page_place}
-use Rattle.mn_world.specs.Planned.{IsPlanned}
-use Rattle.mn_world.specs.Shown.{Seen, SeesCatalog}
-use Rattle.mn_world.proofs.Plans.Pieces.{bytes_in-skip, length-pieces}
-use Rattle.mn_world.proofs.Plans.Spaces.{entry_sizes}
+use Rattle.mn_law.specs.Answers.{IsPageAtFault, MeetsFault, ReachesAddr, ShowsBytes, is_copying}
+use Rattle.mn_runs.specs.Clients.{is_plan}
+use Rattle.mn_plans.specs.Growth.{node_no}
+use Rattle.mn_law.specs.Needs.{NeedsSlots, ReadsTree, WritesOld}
+use Rattle.mn_runs.specs.Seen.{Place, Seen}
+use Rattle.mn_law.specs.Places.{catalog_node, entry_place, number_size, page_place}
+use Rattle.mn_law.specs.Planned.{IsPlanned}
+use Rattle.mn_law.specs.Shown.{SeesCatalog}
+use Rattle.mn_law.proofs.Pieces.{bytes_in-skip, length-pieces, entry_sizes}
 use Rattle.mn_txn.specs.Children.{ChildTry, branch_writes, child_reads, snapshot_writes}
 use Rattle.mn_txn.specs.ChildPlan.{IsVersion, IsWornEntry, IsWornRoot, child_try}
 use Rattle.mn_txn.specs.Tries.{FreeSlotsAreLeft}

@@ -19,15 +19,14 @@ use Rattle.mn_mini.specs.declared.request.Request.{Request}
 use Rattle.mn_mini.specs.declared.request.Request.TheVariants as Ask
 use Rattle.mn_mini.specs.Mini.{Mini, part_of, participants_of, is_read}
 use Rattle.mn_mini.specs.Sound.{Fits}
-use Rattle.mn_world.specs.declared.entry.Entry.{Entry}
-use Rattle.mn_world.specs.declared.entry.What.TheVariants.{Abandoned}
-use Rattle.mn_world.specs.Answers.{all_done, is_any_decide, is_doubt_cause}
-use Rattle.mn_world.specs.Answers.{is_given_up, is_refusal, is_settled, nodes_of}
-use Rattle.mn_world.specs.Calls.{Call, Issued, calls_of, is_done, issues_of, since_begin}
-use Rattle.mn_world.specs.Clients.{is_over}
-use Rattle.mn_world.specs.Places.{Place}
-use Rattle.mn_world.specs.Planned.{HasPlans}
-use Rattle.mn_world.specs.Shown.{seen_by}
+use Rattle.mn_runs.specs.declared.entry.Entry.{Entry}
+use Rattle.mn_runs.specs.declared.entry.What.TheVariants.{Abandoned}
+use Rattle.mn_law.specs.Answers.{all_done, is_any_decide, is_doubt_cause}
+use Rattle.mn_runs.specs.Clients.{is_given_up, is_over}
+use Rattle.mn_law.specs.Answers.{is_refusal, is_settled, nodes_of}
+use Rattle.mn_runs.specs.Calls.{Call, Issued, calls_of, is_done, issues_of, since_begin}
+use Rattle.mn_runs.specs.Seen.{Place, seen_by}
+use Rattle.mn_law.specs.Planned.{HasPlans}
 use Rattle.mn_coord.specs.Coordination.{Coordination, IsSoundStep as IsSoundCoordStep, is_stopped_at_last, participant, stage_in, stage_of, step_at, step_of, try_request}
 use Rattle.mn_coord.specs.Legal.{Agrees as CoordAgrees, MayMake}
 use Rattle.mn_coord.specs.declared.stage.Stage.{Stage}

@@ -30,15 +30,16 @@ use Rattle.mn_mini.specs.Sound.{AreReadsOf, Fits}
 use Rattle.mn_mini.proofs.Parts.{same_self, same_true}
 use Rattle.mn_mini.specs.Mini.{is_read}
 use Rattle.mn_page.specs.declared.entry.CatEntry.{CatEntry}
-use Rattle.mn_world.specs.declared.entry.Entry.{Entry}
-use Rattle.mn_world.specs.Answers.{DiffersAs, LastIssue, RefusedAs, ShowsBytes, asks_catalog}
-use Rattle.mn_world.specs.Answers.{asks_for_catalog, is_any_decide, is_down_cause, is_peek, is_refusal}
-use Rattle.mn_world.specs.Answers.{nodes_of, part_compares}
-use Rattle.mn_world.specs.Calls.{Call, Issued, call_in, calls_of, is_done, issue_in, issues_of, since_begin}
-use Rattle.mn_world.specs.Clients.{is_plan}
-use Rattle.mn_world.specs.Places.{Place, catalog_place}
-use Rattle.mn_world.specs.Shown.{Seen, items_shown, seen_at, seen_by, seen_in, shown_by}
-use Rattle.mn_world.proofs.Bytes.Prepares.{read_alone}
+use Rattle.mn_runs.specs.declared.entry.Entry.{Entry}
+use Rattle.mn_law.specs.Answers.{DiffersAs, LastIssue, RefusedAs, ShowsBytes, asks_catalog}
+use Rattle.mn_law.specs.Answers.{asks_for_catalog, is_any_decide, is_down_cause, is_peek, is_refusal}
+use Rattle.mn_law.specs.Answers.{nodes_of, part_compares}
+use Rattle.mn_runs.specs.Calls.{Call, Issued, call_in, calls_of, is_done, issue_in, issues_of, since_begin}
+use Rattle.mn_runs.specs.Clients.{is_plan}
+use Rattle.mn_runs.specs.Seen.{Place, Seen, seen_at, seen_by, seen_in}
+use Rattle.mn_law.specs.Places.{catalog_place}
+use Rattle.mn_law.specs.Shown.{items_shown, shown_by}
+use Rattle.mn_runs.proofs.Alone.{read_alone}
 use Rattle.mn_coord.specs.Coordination.{Coordination, after_reply, fed, fed_at, is_stopped_at_last, participant, stage_in, stage_of, step_at, step_of, try_request}
 use Rattle.mn_coord.specs.Legal.{Agrees as CoordAgrees, IsAnswered}
 use Rattle.mn_coord.specs.declared.stage.Stage.{Stage}

@@ -26,12 +26,13 @@ use Rattle.mn_page.specs.Forest.{heads_in}
 use Rattle.mn_page.specs.Grammar.{SpellsPage, height_of}
 use Rattle.mn_page.specs.Holds.{page_covers, pairs_in}
 use Rattle.mn_path.specs.Walk.{child_from, front_of, is_live, is_on_path, may_stand}
-use Rattle.mn_world.specs.declared.entry.Entry.{Entry}
-use Rattle.mn_world.specs.Places.{Place, catalog_place, page_place}
-use Rattle.mn_world.specs.Shown.{ReadShows, Seen, ServesNamed, ShowsCatalog, seen_at, seen_in}
-use Rattle.mn_world.specs.Answers.{IsPageAtFault, MeetsFault, Reached, ReachesAddr, SomeReadShows}
-use Rattle.mn_world.proofs.Bytes.Seen.{nothing}
-use Rattle.mn_world.proofs.Reading.Sees.{seen_in-cons}
+use Rattle.mn_runs.specs.declared.entry.Entry.{Entry}
+use Rattle.mn_runs.specs.Seen.{Place, Seen, seen_at, seen_in}
+use Rattle.mn_law.specs.Places.{catalog_place, page_place}
+use Rattle.mn_law.specs.Shown.{ReadShows, ServesNamed, ShowsCatalog}
+use Rattle.mn_law.specs.Answers.{IsPageAtFault, MeetsFault, Reached, ReachesAddr, SomeReadShows}
+use Rattle.mn_runs.proofs.Seen.{nothing}
+use Rattle.mn_law.proofs.Sees.{seen_in-cons}
 use Rattle.mn_work.specs.declared.get.Descent.{Descent}
 use Rattle.mn_work.specs.declared.known.Known.{Known}
 use Rattle.mn_work.specs.declared.next.Next.{Next}

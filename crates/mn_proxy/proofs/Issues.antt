@@ -18,15 +18,15 @@ use Rattle.mn_mini.specs.declared.request.Request.{Request}
 use Rattle.mn_mini.specs.declared.request.Request.TheVariants as Ask
 use Rattle.mn_mini.specs.Mini.{Mini, participants_of, part_of, is_read}
 use Rattle.mn_page.specs.declared.entry.CatEntry.{CatEntry}
-use Rattle.mn_world.specs.declared.entry.Entry.{Entry}
-use Rattle.mn_world.specs.declared.entry.What.{What}
-use Rattle.mn_world.specs.declared.entry.What.TheVariants.{Abandoned, Answered, Begin, Called, Issue, Restarted, Stopped}
-use Rattle.mn_world.specs.Answers.{LastIssue, are_given_up, are_settled, is_given_up, is_settled}
-use Rattle.mn_world.specs.Calls.{Call, Issued, begun_of, begun_in, call_in, calls_of, is_abandonment, is_decide, is_done, is_down_reply, is_exec, is_prepare, is_refused, is_stopped, is_try, issue_in, issues_of, since_begin, since_begin_after, under_way, under_way_after, was_abandoned, was_decided, was_told, was_told_somewhere}
-use Rattle.mn_world.specs.Causes.{is_recovery, recovers_nothing}
-use Rattle.mn_world.specs.Clients.{is_over, may_follow}
-use Rattle.mn_world.specs.Shown.{Seen, ShowsCatalog, seen_at, seen_in}
-use Rattle.mn_world.proofs.Reading.Sees.{seen_in-cons}
+use Rattle.mn_runs.specs.declared.entry.Entry.{Entry}
+use Rattle.mn_runs.specs.declared.entry.What.{What}
+use Rattle.mn_runs.specs.declared.entry.What.TheVariants.{Abandoned, Answered, Begin, Called, Issue, Restarted, Stopped}
+use Rattle.mn_law.specs.Answers.{LastIssue, are_given_up, are_settled, is_settled}
+use Rattle.mn_runs.specs.Clients.{is_given_up, is_recovery, recovers_nothing, is_over, may_follow}
+use Rattle.mn_runs.specs.Calls.{Call, Issued, begun_of, begun_in, call_in, calls_of, is_abandonment, is_decide, is_done, is_down_reply, is_exec, is_prepare, is_refused, is_stopped, is_try, issue_in, issues_of, since_begin, since_begin_after, under_way, under_way_after, was_abandoned, was_decided, was_told, was_told_somewhere}
+use Rattle.mn_runs.specs.Seen.{Seen, seen_at, seen_in}
+use Rattle.mn_law.specs.Shown.{ShowsCatalog}
+use Rattle.mn_law.proofs.Sees.{seen_in-cons}
 use Rattle.mn_coord.specs.Coordination.{Coordination, participant, stage_in, step_at, step_of, try_request}
 use Rattle.mn_coord.specs.declared.stage.Stage.{Stage}
 use Rattle.mn_coord.specs.declared.stage.Stage.TheVariants as At

@@ -13,15 +13,14 @@ use Rattle.mn_coord.specs.Legal.{Agrees as CoordAgrees, IsFresh}
 use Rattle.mn_mini.specs.declared.item.Item.TheVariants.{Read}
 use Rattle.mn_mini.specs.Mini.{IsSound, Mini, is_read}
 use Rattle.mn_page.specs.declared.entry.CatEntry.{CatEntry}
-use Rattle.mn_world.specs.declared.entry.Entry.{Entry}
-use Rattle.mn_world.specs.declared.entry.What.{What}
-use Rattle.mn_world.specs.declared.entry.What.TheVariants.{Begin, Issue}
-use Rattle.mn_world.specs.Answers.{IsPlanBy, IsPlanOfOp, LastIssue, MeansBy, is_refusal, nodes_of}
-use Rattle.mn_world.specs.Calls.{Begun, Call, Issued, begun_of, issue_in, issues_of, since_begin, under_way, under_way_after}
-use Rattle.mn_world.specs.Clients.{ClientAllows, is_plan, last_number}
-use Rattle.mn_world.specs.Answers.{is_peek}
-use Rattle.mn_world.specs.Places.{Place}
-use Rattle.mn_world.specs.Shown.{Seen, seen_by, seen_in}
+use Rattle.mn_runs.specs.declared.entry.Entry.{Entry}
+use Rattle.mn_runs.specs.declared.entry.What.{What}
+use Rattle.mn_runs.specs.declared.entry.What.TheVariants.{Begin, Issue}
+use Rattle.mn_law.specs.Answers.{IsPlanBy, IsPlanOfOp, LastIssue, MeansBy, is_refusal, nodes_of}
+use Rattle.mn_runs.specs.Calls.{Begun, Call, Issued, begun_of, issue_in, issues_of, since_begin, under_way, under_way_after}
+use Rattle.mn_runs.specs.Clients.{ClientAllows, is_plan, last_number}
+use Rattle.mn_law.specs.Answers.{is_peek}
+use Rattle.mn_runs.specs.Seen.{Place, Seen, seen_by, seen_in}
 use Rattle.mn_proxy.specs.declared.proxy.TheConstants.{PEEKS}
 use Rattle.mn_proxy.specs.declared.errand.Errand.{Errand}
 use Rattle.mn_proxy.specs.declared.errand.Errand.TheVariants as out

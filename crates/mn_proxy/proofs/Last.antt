@@ -15,10 +15,11 @@ use Rattle.mn_page.specs.Grammar.{page_bytes}
 use Rattle.mn_page.proofs.Grid.{all_split}
 use Rattle.mn_txn.specs.declared.seen.SeenPage.{SeenPage}
 use Rattle.mn_base.proofs.Lists.{all_append}
-use Rattle.mn_world.specs.declared.entry.Entry.{Entry}
-use Rattle.mn_world.specs.Calls.{Call, call_in, calls_of}
-use Rattle.mn_world.specs.Places.{Place, catalog_node, catalog_place, entry_place, number_size, page_place}
-use Rattle.mn_world.specs.Shown.{FirstGives, Seen, shown_by, shown_in}
+use Rattle.mn_runs.specs.declared.entry.Entry.{Entry}
+use Rattle.mn_runs.specs.Calls.{Call, call_in, calls_of}
+use Rattle.mn_runs.specs.Seen.{Place, Seen}
+use Rattle.mn_law.specs.Places.{catalog_node, catalog_place, entry_place, number_size, page_place}
+use Rattle.mn_law.specs.Shown.{FirstGives, shown_by, shown_in}
 use Rattle.mn_work.specs.declared.known.Known.{Known}
 use Rattle.mn_work.specs.declared.next.Next.{Next}
 use Rattle.mn_work.specs.declared.next.Taken.{Taken}

@@ -12,7 +12,8 @@ use Rattle.mn_page.specs.Grammar.{SpellsPage, height_of}
 use Rattle.mn_page.proofs.Spelled.{page_spelled_once}
 use Rattle.mn_mini.specs.Mini.{Mini}
 use Rattle.mn_path.specs.Walk.{front_of}
-use Rattle.mn_world.specs.Places.{Place, page_place}
+use Rattle.mn_runs.specs.Seen.{Place}
+use Rattle.mn_law.specs.Places.{page_place}
 use Rattle.mn_proxy.specs.declared.errand.Errand.{Errand}
 use Rattle.mn_proxy.specs.declared.errand.Errand.TheVariants as out
 use Rattle.mn_proxy.specs.declared.errand.Purpose.{Purpose}

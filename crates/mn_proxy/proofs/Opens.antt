@@ -7,14 +7,15 @@ use Rattle.std.proofs.lemmas.List.Folds.{list_any-append}
 use Rattle.mn_base.specs.declared.op.Op.{Op}
 use Rattle.mn_base.specs.declared.op.Op.TheVariants.{Tx, Snapshot, Branch, Scan, Versions}
 use Rattle.mn_page.specs.declared.entry.CatEntry.{CatEntry}
-use Rattle.mn_world.specs.declared.entry.Entry.{Entry}
-use Rattle.mn_world.specs.Answers.{MayBeKept, asks_catalog, asks_for_catalog, is_refusal}
+use Rattle.mn_runs.specs.declared.entry.Entry.{Entry}
+use Rattle.mn_law.specs.Answers.{MayBeKept, asks_catalog, asks_for_catalog, is_refusal}
 use Rattle.mn_base.specs.declared.ids.Tid.{Tid}
-use Rattle.mn_world.specs.declared.entry.What.TheVariants.{Issue}
-use Rattle.mn_world.specs.Calls.{Call, call_in, calls_of, issue_in, issues_of, since_begin}
-use Rattle.mn_world.specs.Causes.{recovers_nothing}
-use Rattle.mn_world.specs.Shown.{IsCatalogRead, Seen, seen_at, seen_in}
-use Rattle.mn_world.proofs.Reading.Sees.{seen_in-cons}
+use Rattle.mn_runs.specs.declared.entry.What.TheVariants.{Issue}
+use Rattle.mn_runs.specs.Calls.{Call, call_in, calls_of, issue_in, issues_of, since_begin}
+use Rattle.mn_runs.specs.Clients.{recovers_nothing}
+use Rattle.mn_law.specs.Shown.{IsCatalogRead}
+use Rattle.mn_runs.specs.Seen.{Seen, seen_at, seen_in}
+use Rattle.mn_law.proofs.Sees.{seen_in-cons}
 use Rattle.mn_proxy.specs.declared.errand.Errand.{Errand}
 use Rattle.mn_work.specs.declared.known.Known.{Known}
 use Rattle.mn_work.specs.declared.work.Job.{Job}

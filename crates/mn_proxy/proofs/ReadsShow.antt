@@ -12,8 +12,9 @@ use Rattle.mn_page.specs.declared.page.Page.{Page}
 use Rattle.mn_page.specs.Grammar.{page_bytes}
 use Rattle.mn_page.specs.Space.{count_size, count_start}
 use Rattle.mn_scan.specs.Scan.{key_at}
-use Rattle.mn_world.specs.Answers.{ReachesAddr, ShowsBytes}
-use Rattle.mn_world.specs.Shown.{Seen, SeesCatalog}
+use Rattle.mn_law.specs.Answers.{ReachesAddr, ShowsBytes}
+use Rattle.mn_runs.specs.Seen.{Seen}
+use Rattle.mn_law.specs.Shown.{SeesCatalog}
 use Rattle.mn_txn.specs.declared.seen.SeenPage.{SeenPage}
 use Rattle.mn_work.specs.declared.get.Descent.{Descent}
 use Rattle.mn_work.specs.declared.work.Job.{Job}

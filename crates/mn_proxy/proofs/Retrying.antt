@@ -8,9 +8,9 @@ use Rattle.mn_base.specs.declared.answer.Busy.TheVariants.{Path}
 use Rattle.mn_base.specs.declared.op.Op.{Op}
 use Rattle.mn_base.specs.declared.op.Op.TheVariants.{Tx, Snapshot, Branch, Scan, Versions}
 use Rattle.mn_page.specs.declared.entry.CatEntry.{CatEntry}
-use Rattle.mn_world.specs.declared.entry.Entry.{Entry}
-use Rattle.mn_world.specs.Answers.{FailedTries, ShowsAnswer, nodes_of}
-use Rattle.mn_world.specs.Calls.{issues_of, since_begin}
+use Rattle.mn_runs.specs.declared.entry.Entry.{Entry}
+use Rattle.mn_law.specs.Answers.{FailedTries, ShowsAnswer, nodes_of}
+use Rattle.mn_runs.specs.Calls.{issues_of, since_begin}
 use Rattle.mn_work.specs.declared.known.Known.{Known}
 use Rattle.mn_proxy.specs.Turn as turns
 use Rattle.mn_work.specs.declared.work.Job.{Job}

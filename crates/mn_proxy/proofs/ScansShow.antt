@@ -37,17 +37,17 @@ use Rattle.mn_path.specs.Walk.{child_from, front_of, is_on_path}
 use Rattle.mn_scan.specs.Scan.{FollowsOn, IsInTurn, IsNeeded, ScanState, fed, fed_body, fits, gathered}
 use Rattle.mn_scan.specs.Scan.{gone_below, is_end, key_at, leaf_taken, may_be_leaf, new_scan}
 use Rattle.mn_scan.specs.Scan.{restarted}
-use Rattle.mn_world.specs.declared.entry.Entry.{Entry}
-use Rattle.mn_world.specs.Calls.{Call, call_in}
-use Rattle.mn_world.specs.Places.{Place, catalog_place, count_place, page_place}
-use Rattle.mn_world.specs.Shown.{EndsAtOrAbove, FirstCatalog, IsCatalogRead, ReachesEnd}
-use Rattle.mn_world.specs.Shown.{ScanShows, Seen, SeesCatalog, SeesPage}
-use Rattle.mn_world.specs.Shown.{ServesNamed, seen_at, seen_by, seen_in}
-use Rattle.mn_world.specs.Scans.{HasGathered, MayFollow}
-use Rattle.mn_world.specs.Answers.{BringsLeaf, EndsWithLeaf, IsPageAtFault, MeetsFault, ReachesAddr}
-use Rattle.mn_world.proofs.Bytes.Seen.{nothing}
-use Rattle.mn_world.proofs.Reading.Gathered.{gathered_is_shown, gathered_stays, leaves_are_gathered}
-use Rattle.mn_world.proofs.Reading.Sees.{seen_in-cons}
+use Rattle.mn_runs.specs.declared.entry.Entry.{Entry}
+use Rattle.mn_runs.specs.Calls.{Call, call_in}
+use Rattle.mn_runs.specs.Seen.{Place, Seen, seen_at, seen_by, seen_in}
+use Rattle.mn_law.specs.Places.{catalog_place, count_place, page_place}
+use Rattle.mn_law.specs.Shown.{EndsAtOrAbove, FirstCatalog, IsCatalogRead, ReachesEnd}
+use Rattle.mn_law.specs.Shown.{ScanShows, SeesCatalog, SeesPage, ServesNamed}
+use Rattle.mn_law.specs.Scans.{HasGathered, MayFollow}
+use Rattle.mn_law.specs.Answers.{BringsLeaf, EndsWithLeaf, IsPageAtFault, MeetsFault, ReachesAddr}
+use Rattle.mn_runs.proofs.Seen.{nothing}
+use Rattle.mn_law.proofs.Gathered.{gathered_is_shown, gathered_stays, leaves_are_gathered}
+use Rattle.mn_law.proofs.Sees.{seen_in-cons}
 use Rattle.mn_work.specs.declared.known.Known.{Known}
 use Rattle.mn_work.specs.declared.next.Next.{Next}
 use Rattle.mn_work.specs.declared.next.Taken.{Taken}

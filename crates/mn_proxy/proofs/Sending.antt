@@ -8,7 +8,7 @@ use Rattle.mn_coord.specs.Coordination.{Coordination, after_step, step_of}
 use Rattle.mn_coord.specs.declared.step.CoordStep.{CoordStep}
 use Rattle.mn_coord.specs.declared.step.CoordStep.TheVariants.{Send, Abandon}
 use Rattle.mn_mini.specs.declared.request.Request.{Request}
-use Rattle.mn_world.specs.declared.entry.Entry.{Entry}
+use Rattle.mn_runs.specs.declared.entry.Entry.{Entry}
 use Rattle.mn_proxy.specs.declared.errand.Errand.{Errand}
 use Rattle.mn_proxy.specs.declared.errand.Errand.TheVariants as out
 use Rattle.mn_proxy.specs.declared.errand.Purpose.{Purpose}

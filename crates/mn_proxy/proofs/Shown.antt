@@ -22,16 +22,17 @@ use Rattle.mn_page.specs.Forest.{heads_in}
 use Rattle.mn_page.specs.Grammar.{IsEntry, entry_bytes}
 use Rattle.mn_page.specs.Space.{count_size, count_start, entry_start, max_slots}
 use Rattle.mn_page.proofs.Spelled.{entry_length}
-use Rattle.mn_world.specs.declared.entry.Entry.{Entry}
-use Rattle.mn_world.specs.Answers.{FreeSlots, MeetsFault, Reached, ReachesAddr, ShowsBytes}
-use Rattle.mn_world.specs.Clients.{is_plan}
-use Rattle.mn_world.specs.Growth.{node_no}
-use Rattle.mn_world.specs.Needs.{NeedsSlots, WritesOld}
-use Rattle.mn_world.specs.Places.{Place, catalog_node, count_place}
-use Rattle.mn_world.specs.Planned.{IsPlanned}
-use Rattle.mn_world.specs.Shown.{Seen, SeesCatalog}
-use Rattle.mn_world.proofs.Plans.Told.{all_there}
-use Rattle.mn_world.proofs.Reading.Shows.{entry_given}
+use Rattle.mn_runs.specs.declared.entry.Entry.{Entry}
+use Rattle.mn_law.specs.Answers.{FreeSlots, MeetsFault, Reached, ReachesAddr, ShowsBytes}
+use Rattle.mn_runs.specs.Clients.{is_plan}
+use Rattle.mn_plans.specs.Growth.{node_no}
+use Rattle.mn_law.specs.Needs.{NeedsSlots, WritesOld}
+use Rattle.mn_runs.specs.Seen.{Place, Seen}
+use Rattle.mn_law.specs.Places.{catalog_node, count_place}
+use Rattle.mn_law.specs.Planned.{IsPlanned}
+use Rattle.mn_law.specs.Shown.{SeesCatalog}
+use Rattle.mn_plans.proofs.Told.{all_there}
+use Rattle.mn_law.proofs.Shows.{entry_given}
 use Rattle.mn_txn.specs.Tries.{FreeSlotsAreLeft}
 use Rattle.mn_work.specs.declared.next.Next.{Next}
 use Rattle.mn_work.specs.declared.next.Taken.{Taken}

@@ -26,11 +26,12 @@ use Rattle.mn_page.specs.Space.{count_size, count_start, entry_start}
 use Rattle.mn_tree.specs.Moves.{Comes, Does, LeadsTo, Move, comes_in}
 use Rattle.mn_tree.specs.State.{Drafted, drafted_after, drafted_with, no_pages}
 use Rattle.mn_tree.specs.Tries.{ComeTo}
-use Rattle.mn_world.specs.Answers.{FreeSlots, MeetsFault, ShowsBytes}
-use Rattle.mn_world.specs.Needs.{NeedsSlots, ReadsTree, WritesOld}
-use Rattle.mn_world.specs.Places.{Place, catalog_node, number_size}
-use Rattle.mn_world.specs.Shown.{Seen, SeesCatalog, SeesPage}
-use Rattle.mn_world.proofs.Plans.Told.{all_there}
+use Rattle.mn_law.specs.Answers.{FreeSlots, MeetsFault, ShowsBytes}
+use Rattle.mn_law.specs.Needs.{NeedsSlots, ReadsTree, WritesOld}
+use Rattle.mn_runs.specs.Seen.{Place, Seen}
+use Rattle.mn_law.specs.Places.{catalog_node, number_size}
+use Rattle.mn_law.specs.Shown.{SeesCatalog, SeesPage}
+use Rattle.mn_plans.proofs.Told.{all_there}
 use Rattle.mn_txn.specs.Attempt.{Attempt as Tried}
 use Rattle.mn_txn.specs.Tries.{FreeSlotsAreLeft, TriesShowCauses, WornPagesShow}
 use Rattle.mn_txn.specs.declared.seen.SeenPage.{SeenPage}

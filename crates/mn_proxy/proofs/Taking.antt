@@ -16,13 +16,14 @@ use Rattle.mn_mini.specs.declared.reply.NodeReply.TheVariants as Say
 use Rattle.mn_mini.specs.declared.request.Request.TheVariants as Ask
 use Rattle.mn_page.specs.declared.entry.CatEntry.{CatEntry}
 use Rattle.mn_scan.specs.Scan.{IsNeeded, ScanState, may_be_leaf}
-use Rattle.mn_world.specs.declared.entry.Entry.{Entry}
-use Rattle.mn_world.specs.Answers.{BringsLeaf, EndsWithLeaf, IsWhole, LeafIsNewest, MayBeKept}
-use Rattle.mn_world.specs.Answers.{MeetsFault, SomeReadShows, is_peek, is_refusal}
-use Rattle.mn_world.specs.Calls.{Call, call_in, issues_of, since_begin}
-use Rattle.mn_world.specs.Places.{Place, catalog_place, count_place}
-use Rattle.mn_world.specs.Shown.{ReadShows, Seen, ShowsCatalog, seen_at, seen_in}
-use Rattle.mn_world.proofs.Reading.Sees.{seen_in-cons}
+use Rattle.mn_runs.specs.declared.entry.Entry.{Entry}
+use Rattle.mn_law.specs.Answers.{BringsLeaf, EndsWithLeaf, IsWhole, LeafIsNewest, MayBeKept}
+use Rattle.mn_law.specs.Answers.{MeetsFault, SomeReadShows, is_peek, is_refusal}
+use Rattle.mn_runs.specs.Calls.{Call, call_in, issues_of, since_begin}
+use Rattle.mn_runs.specs.Seen.{Place, Seen, seen_at, seen_in}
+use Rattle.mn_law.specs.Places.{catalog_place, count_place}
+use Rattle.mn_law.specs.Shown.{ReadShows, ShowsCatalog}
+use Rattle.mn_law.proofs.Sees.{seen_in-cons}
 use Rattle.mn_work.specs.declared.child.Child.{Child}
 use Rattle.mn_proxy.specs.declared.errand.Errand.{Errand}
 use Rattle.mn_proxy.specs.declared.errand.Purpose.{Purpose}

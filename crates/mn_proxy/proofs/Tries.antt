@@ -18,16 +18,16 @@ use Rattle.mn_mini.specs.declared.request.Request.TheVariants as Ask
 use Rattle.mn_mini.specs.declared.reply.NodeReply.{NodeReply}
 use Rattle.mn_mini.specs.declared.reply.NodeReply.TheVariants as Say
 use Rattle.mn_page.specs.declared.entry.CatEntry.{CatEntry}
-use Rattle.mn_world.specs.declared.entry.Entry.{Entry}
-use Rattle.mn_world.specs.Calls.{Call, call_in, calls_of}
-use Rattle.mn_world.specs.Shown.{Seen, seen_by, seen_in}
-use Rattle.mn_world.specs.Answers.{BeginsAfter, BringsLeaf, BringsNone, EndsWithLeaf, FailedTries}
-use Rattle.mn_world.specs.Answers.{FailsAs, IsWhole, LastTry, LeafIsNewest, MeetsFault}
-use Rattle.mn_world.specs.Answers.{Reached, ReachesAddr}
-use Rattle.mn_world.specs.Answers.Reached.{by_root, by_child}
-use Rattle.mn_world.proofs.Reading.Sees.{seen_in-append}
-use Rattle.mn_world.specs.Answers.{RefusedAs, asks_for_catalog, ends_refused, is_any_decide}
-use Rattle.mn_world.specs.Answers.{is_one_try, is_peek, is_refusal, none_refused, reads_anew}
+use Rattle.mn_runs.specs.declared.entry.Entry.{Entry}
+use Rattle.mn_runs.specs.Calls.{Call, call_in, calls_of}
+use Rattle.mn_runs.specs.Seen.{Seen, seen_by, seen_in}
+use Rattle.mn_law.specs.Answers.{BeginsAfter, BringsLeaf, BringsNone, EndsWithLeaf, FailedTries}
+use Rattle.mn_law.specs.Answers.{FailsAs, IsWhole, LastTry, LeafIsNewest, MeetsFault}
+use Rattle.mn_law.specs.Answers.{Reached, ReachesAddr}
+use Rattle.mn_law.specs.Answers.Reached.{by_root, by_child}
+use Rattle.mn_law.proofs.Sees.{seen_in-append}
+use Rattle.mn_law.specs.Answers.{RefusedAs, asks_for_catalog, ends_refused, is_any_decide}
+use Rattle.mn_law.specs.Answers.{is_one_try, is_peek, is_refusal, none_refused, reads_anew}
 use Rattle.mn_proxy.specs.Tries.{FirstFailed, HasAsked, HasNoLeaf, HaveFailed, IsTrying}
 use Rattle.mn_proxy.specs.Tries.{MayPeek, ShowsCause, WasRefused, peeks_at_nothing}
 use Rattle.mn_work.specs.Walks.{IfLater}

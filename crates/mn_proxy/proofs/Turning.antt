@@ -3,10 +3,10 @@ use Rattle.std.proofs.Common.{◌≡◌, ℕ, List, Option, Some, None, Result, 
 use Rattle.std.specs.Prelude.{OnErr}
 use Rattle.mn_base.specs.declared.answer.Answer.TheVariants as answers
 use Rattle.mn_base.specs.declared.ids.ClientNo.{ClientNo}
-use Rattle.mn_world.specs.declared.entry.Entry.{Entry}
-use Rattle.mn_world.specs.declared.entry.What.TheVariants.{Abandoned, Answered, Issue}
-use Rattle.mn_world.specs.Calls.{begun_of}
-use Rattle.mn_world.specs.Clients.{ClientAllows, last_number}
+use Rattle.mn_runs.specs.declared.entry.Entry.{Entry}
+use Rattle.mn_runs.specs.declared.entry.What.TheVariants.{Abandoned, Answered, Issue}
+use Rattle.mn_runs.specs.Calls.{begun_of}
+use Rattle.mn_runs.specs.Clients.{ClientAllows, last_number}
 use Rattle.mn_proxy.specs.declared.errand.Errand.{Errand}
 use Rattle.mn_proxy.specs.Turn.{Turn}
 use Rattle.mn_proxy.specs.Turn as turns

@@ -13,12 +13,12 @@ use Rattle.mn_base.specs.declared.reply.Reply.{Reply}
 use Rattle.mn_mini.specs.Mini.{Mini}
 use Rattle.mn_page.specs.declared.entry.CatEntry.{CatEntry}
 use Rattle.mn_txn.specs.Tries.{FreeSlotsAreLeft, TriesShowCauses, WornPagesShow}
-use Rattle.mn_world.specs.declared.entry.Entry.{Entry}
-use Rattle.mn_world.specs.Answers.{IsSettled, IsWhole, LastTry, MeetsFault, ShowsAnswer}
-use Rattle.mn_world.specs.Answers.{FreeSlots}
-use Rattle.mn_world.specs.Calls.{issues_of, since_begin}
-use Rattle.mn_world.specs.Places.{Place, count_place}
-use Rattle.mn_world.specs.Shown.{ScanShows, Seen, seen_in}
+use Rattle.mn_runs.specs.declared.entry.Entry.{Entry}
+use Rattle.mn_law.specs.Answers.{IsSettled, IsWhole, LastTry, MeetsFault, ShowsAnswer, FreeSlots}
+use Rattle.mn_runs.specs.Calls.{issues_of, since_begin}
+use Rattle.mn_runs.specs.Seen.{Place, Seen, seen_in}
+use Rattle.mn_law.specs.Places.{count_place}
+use Rattle.mn_law.specs.Shown.{ScanShows}
 use Rattle.mn_proxy.specs.declared.errand.Purpose.TheVariants as by
 use Rattle.mn_work.specs.declared.known.Known.{Known}
 use Rattle.mn_work.specs.declared.next.Next.{Next}

@@ -22,18 +22,18 @@ use Rattle.mn_mini.specs.declared.request.Request.TheVariants as Ask
 use Rattle.mn_mini.specs.Mini.{Mini}
 use Rattle.mn_mini.specs.Sound.{Fits, IsSoundRequest}
 use Rattle.mn_page.specs.declared.entry.CatEntry.{CatEntry}
-use Rattle.mn_world.specs.declared.entry.Entry.{Entry}
-use Rattle.mn_world.specs.declared.entry.What.{What}
-use Rattle.mn_world.specs.declared.entry.What.TheVariants.{Abandoned, Answered, Begin, Issue}
+use Rattle.mn_runs.specs.declared.entry.Entry.{Entry}
+use Rattle.mn_runs.specs.declared.entry.What.{What}
+use Rattle.mn_runs.specs.declared.entry.What.TheVariants.{Abandoned, Answered, Begin, Issue}
 use Rattle.mn_scan.specs.Scan.{may_be_leaf}
-use Rattle.mn_world.specs.Answers.{IsPlanBy, LastIssue, MeansBy, ShowsBytes, is_down_cause}
-use Rattle.mn_world.specs.Answers.{is_refusal, nodes_of}
-use Rattle.mn_world.specs.Calls.{begun_of, call_in, calls_of, is_done, issues_of, since_begin}
-use Rattle.mn_world.specs.Calls.{under_way}
-use Rattle.mn_world.specs.Causes.{recovers_nothing}
-use Rattle.mn_world.specs.Clients.{ClientAllows, Sends, is_plan, last_number}
-use Rattle.mn_world.specs.Places.{Place, catalog_place, count_place, page_place}
-use Rattle.mn_world.specs.Shown.{Seen, ShowsCatalog, seen_in}
+use Rattle.mn_law.specs.Answers.{IsPlanBy, LastIssue, MeansBy, ShowsBytes, is_down_cause}
+use Rattle.mn_law.specs.Answers.{is_refusal, nodes_of}
+use Rattle.mn_runs.specs.Calls.{begun_of, call_in, calls_of, is_done, issues_of, since_begin}
+use Rattle.mn_runs.specs.Calls.{under_way}
+use Rattle.mn_runs.specs.Clients.{recovers_nothing, ClientAllows, Sends, is_plan, last_number}
+use Rattle.mn_runs.specs.Seen.{Place, Seen, seen_in}
+use Rattle.mn_law.specs.Places.{catalog_place, count_place, page_place}
+use Rattle.mn_law.specs.Shown.{ShowsCatalog}
 use Rattle.mn_proxy.specs.declared.errand.Errand.{Errand}
 use Rattle.mn_proxy.specs.declared.errand.Errand.TheVariants as out
 use Rattle.mn_proxy.specs.declared.errand.Purpose.{Purpose}

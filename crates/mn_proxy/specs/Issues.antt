@@ -6,10 +6,10 @@ use Rattle.mn_base.specs.declared.ids.ClientNo.{ClientNo}
 use Rattle.mn_base.specs.declared.ids.Tid.{Tid}
 use Rattle.mn_mini.specs.Mini.{is_read}
 use Rattle.mn_coord.specs.Legal.{IsFresh}
-use Rattle.mn_world.specs.declared.entry.Entry.{Entry}
-use Rattle.mn_world.specs.Answers.{is_given_up, is_settled}
-use Rattle.mn_world.specs.Calls.{Issued, issues_of}
-use Rattle.mn_world.specs.Clients.{is_over}
+use Rattle.mn_runs.specs.declared.entry.Entry.{Entry}
+use Rattle.mn_runs.specs.Clients.{is_given_up, is_over}
+use Rattle.mn_law.specs.Answers.{is_settled}
+use Rattle.mn_runs.specs.Calls.{Issued, issues_of}
 
 -- the id of a client's issue of this serial, in this run
 abbrev pub tid_of : ClientNo → ℕ → ℕ → Tid

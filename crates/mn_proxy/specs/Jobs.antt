@@ -16,11 +16,11 @@ use Rattle.mn_page.specs.Forest.{heads_in}
 use Rattle.mn_page.specs.Grammar.{page_bytes}
 use Rattle.mn_page.specs.Space.{count_size, count_start}
 use Rattle.mn_scan.specs.Scan.{ScanState, key_at}
-use Rattle.mn_world.specs.declared.entry.Entry.{Entry}
-use Rattle.mn_world.specs.Answers.{ShowsBytes}
-use Rattle.mn_world.specs.Scans.{HasGathered}
-use Rattle.mn_world.specs.Shown.{FirstCatalog, IsCatalogRead, ReachesEnd, Seen, SeesCatalog}
-use Rattle.mn_world.specs.Shown.{seen_in}
+use Rattle.mn_runs.specs.declared.entry.Entry.{Entry}
+use Rattle.mn_law.specs.Answers.{ShowsBytes}
+use Rattle.mn_law.specs.Scans.{HasGathered}
+use Rattle.mn_law.specs.Shown.{FirstCatalog, IsCatalogRead, ReachesEnd, SeesCatalog}
+use Rattle.mn_runs.specs.Seen.{Seen, seen_in}
 use Rattle.mn_work.specs.declared.known.Known.{Known}
 use Rattle.mn_work.specs.declared.work.Job.{Job}
 use Rattle.mn_work.specs.declared.work.Job.TheVariants as at

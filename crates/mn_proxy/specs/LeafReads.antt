@@ -14,7 +14,8 @@ use Rattle.mn_mini.specs.declared.request.Request.{Request}
 use Rattle.mn_mini.specs.declared.request.Request.TheVariants as Ask
 use Rattle.mn_page.specs.declared.page.Page.{Page}
 use Rattle.mn_page.specs.Grammar.{SpellsPage, height_of}
-use Rattle.mn_world.specs.Places.{Place, page_place}
+use Rattle.mn_runs.specs.Seen.{Place}
+use Rattle.mn_law.specs.Places.{page_place}
 use Rattle.mn_page.specs.declared.entry.CatEntry.{CatEntry}
 use Rattle.mn_path.specs.Walk.{front_of}
 use Rattle.mn_proxy.specs.declared.errand.Errand.{Errand}

@@ -6,11 +6,11 @@ use Rattle.std.specs.List.{list_all, flat_map, AllByRecursion}
 use Rattle.mn_base.specs.declared.op.Op.{Op}
 use Rattle.mn_base.specs.declared.op.Op.TheVariants.{Scan}
 use Rattle.mn_base.specs.declared.answer.Busy.{Busy}
-use Rattle.mn_world.specs.declared.entry.Entry.{Entry}
-use Rattle.mn_world.specs.Calls.{calls_of}
-use Rattle.mn_world.specs.Answers.{BringsLeaf, EndsWithLeaf, FailsAs, IsWhole, LeafIsNewest}
-use Rattle.mn_world.specs.Answers.{MayBeKept, asks_for_catalog, ends_refused, is_any_decide}
-use Rattle.mn_world.specs.Answers.{is_one_try, is_peek, none_refused, reads_anew}
+use Rattle.mn_runs.specs.declared.entry.Entry.{Entry}
+use Rattle.mn_runs.specs.Calls.{calls_of}
+use Rattle.mn_law.specs.Answers.{BringsLeaf, EndsWithLeaf, FailsAs, IsWhole, LeafIsNewest}
+use Rattle.mn_law.specs.Answers.{MayBeKept, asks_for_catalog, ends_refused, is_any_decide}
+use Rattle.mn_law.specs.Answers.{is_one_try, is_peek, none_refused, reads_anew}
 
 -- the most tries of an operation, and of each leaf of a scan
 abbrev pub max_tries : ℕ

@@ -17,13 +17,12 @@ use Rattle.mn_mini.specs.declared.reply.NodeReply.{NodeReply}
 use Rattle.mn_mini.specs.declared.reply.NodeReply.TheVariants as Say
 use Rattle.mn_mini.specs.declared.request.Request.{Request}
 use Rattle.mn_mini.specs.Mini.{Mini}
-use Rattle.mn_world.specs.declared.entry.Entry.{Entry}
-use Rattle.mn_world.specs.declared.entry.What.TheVariants.{Abandoned}
-use Rattle.mn_world.specs.Answers.{LastPlanReplies, MeetsFault, are_given_up, are_settled}
-use Rattle.mn_world.specs.Answers.{is_down_cause, is_refusal}
-use Rattle.mn_world.specs.Calls.{calls_of, since_begin}
-use Rattle.mn_world.specs.Places.{Place}
-use Rattle.mn_world.specs.Shown.{Seen, seen_in}
+use Rattle.mn_runs.specs.declared.entry.Entry.{Entry}
+use Rattle.mn_runs.specs.declared.entry.What.TheVariants.{Abandoned}
+use Rattle.mn_law.specs.Answers.{LastPlanReplies, MeetsFault, are_given_up, are_settled}
+use Rattle.mn_law.specs.Answers.{is_down_cause, is_refusal}
+use Rattle.mn_runs.specs.Calls.{calls_of, since_begin}
+use Rattle.mn_runs.specs.Seen.{Place, Seen, seen_in}
 use Rattle.mn_proxy.specs.declared.errand.Errand.{Errand}
 use Rattle.mn_proxy.specs.declared.errand.Errand.TheVariants as out
 use Rattle.mn_proxy.specs.declared.errand.Purpose.{Purpose}

@@ -8,7 +8,7 @@ ghost use Rattle.mn_mini.specs.Sound.{Fits};
 ghost use Rattle.mn_coord.specs.declared.step.CoordStep.TheVariants.{Send};
 ghost use Rattle.mn_coord.specs.Coordination.{Coordination, step_of, fed as fed_by};
 ghost use Rattle.mn_coord.specs.Legal.{IsAnswered};
-ghost use Rattle.mn_world.specs.declared.entry.Entry.{Entry};
+ghost use Rattle.mn_runs.specs.declared.entry.Entry.{Entry};
 ghost use Rattle.mn_proxy.specs.declared.errand.Errand.TheVariants as errands;
 ghost use Rattle.mn_proxy.specs.declared.errand.Purpose.{Purpose};
 ghost use Rattle.mn_work.specs.declared.get.Descent.{Descent};

@@ -3,7 +3,7 @@ use Rattle.std.proofs.Common.{◌≡◌, ℕ, zero, suc, true, List, [], ◌∷�
 use Rattle.mn_base.specs.Ids.{tid_same}
 use Rattle.mn_base.specs.declared.ids.Tid.{Tid}
 use Rattle.mn_mini.specs.declared.doubt.Doubt.{Doubt}
-use Rattle.mn_world.specs.Calls.{lists_doubt}
+use Rattle.mn_runs.specs.Calls.{lists_doubt}
 
 pub first_here : (tid : Tid) (ds : List Doubt) (i : ℕ) (d : Doubt) → slice_get ds i ≡ Some d → tid_same d.tid tid ≡ true → lists_doubt tid (drop i ds) ≡ Some d.participants
 first_here tid [] i d at same = absurd cc

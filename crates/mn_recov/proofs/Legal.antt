@@ -13,10 +13,10 @@ use Rattle.mn_mini.specs.declared.request.Request.TheVariants as Ask
 use Rattle.mn_mini.specs.declared.reply.NodeReply.{NodeReply}
 use Rattle.mn_mini.specs.declared.reply.NodeReply.TheVariants as Say
 use Rattle.mn_mini.proofs.Parts.{same_self}
-use Rattle.mn_world.specs.declared.entry.Entry.{Entry}
-use Rattle.mn_world.specs.Calls.{Call, call_in, calls_of, is_last_of, was_told, is_prepare, is_exec, is_force, is_done, is_yes, is_no, is_stopped, has_yes, has_no, is_in_doubt, lists_doubt, Lists, WasListed}
-use Rattle.mn_world.specs.Clients.{Sends}
-use Rattle.mn_world.proofs.Reading.Same.{tid_same-refl}
+use Rattle.mn_runs.specs.declared.entry.Entry.{Entry}
+use Rattle.mn_runs.specs.Calls.{Call, call_in, calls_of, is_last_of, was_told, is_prepare, is_exec, is_force, is_done, is_yes, is_no, is_stopped, has_yes, has_no, is_in_doubt, lists_doubt, Lists, WasListed}
+use Rattle.mn_runs.specs.Clients.{Sends}
+use Rattle.mn_runs.proofs.Same.{tid_same-refl}
 use Rattle.mn_recov.specs.declared.stage.RecovStage.{RecovStage}
 use Rattle.mn_recov.specs.declared.stage.RecovStage.TheVariants.{Looking, Found}
 use Rattle.mn_recov.specs.declared.step.RecovStep.TheVariants.{Send, Ended}

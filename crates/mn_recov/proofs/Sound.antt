@@ -9,7 +9,7 @@ use Rattle.mn_mini.specs.RecordGrammar.{IsTid}
 use Rattle.mn_mini.specs.declared.request.Request.TheVariants as Ask
 use Rattle.mn_mini.specs.declared.reply.NodeReply.{NodeReply}
 use Rattle.mn_mini.specs.declared.reply.NodeReply.TheVariants as Say
-use Rattle.mn_world.specs.Calls.{lists_doubt}
+use Rattle.mn_runs.specs.Calls.{lists_doubt}
 use Rattle.mn_recov.specs.declared.stage.RecovStage.{RecovStage}
 use Rattle.mn_recov.specs.declared.stage.RecovStage.TheVariants.{Looking, Found}
 use Rattle.mn_recov.specs.declared.step.RecovStep.TheVariants.{Send, Ended}

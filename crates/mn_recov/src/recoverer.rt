@@ -2,7 +2,7 @@ ghost use Rattle.std.specs.Prelude.{◌≡◌, ◌<◌, length, IfOk, IfSome, If
 ghost use Rattle.std.specs.List.{list_all};
 ghost use Rattle.std.specs.Option.{option_map};
 ghost use Rattle.mn_mini.specs.declared.doubt.Doubt.{Doubt};
-ghost use Rattle.mn_world.specs.Calls.{lists_doubt};
+ghost use Rattle.mn_runs.specs.Calls.{lists_doubt};
 ghost use Rattle.mn_recov.specs.declared.stage.RecovStage.TheVariants.{Looking};
 ghost use Rattle.mn_mini.specs.RecordGrammar.{IsTid};
 ghost use Rattle.mn_recov.specs.Recovery.{found_or, after_list, stage_after};
@@ -86,7 +86,7 @@ impl Recoverer {
     ghost use Rattle.std.specs.Prelude.{List, ◌∷◌};
     ghost use Rattle.mn_base.specs.declared.ids.NodeNo.{NodeNo};
     ghost use Rattle.mn_mini.specs.declared.request.Request.{Request};
-    ghost use Rattle.mn_world.specs.declared.entry.Entry.{Entry};
+    ghost use Rattle.mn_runs.specs.declared.entry.Entry.{Entry};
     ghost use Rattle.mn_recov.specs.declared.step.RecovStep.TheVariants.{Send};
     ghost use Rattle.mn_recov.specs.Recovery.{step_of, fed, IsSend, IsSoundRecovery, IsSoundStep};
     ghost use Rattle.mn_recov.specs.Legal.{Agrees, MayMake, IsAnswered};

@@ -10,14 +10,13 @@ use Rattle.mn_cell.specs.Calls.{entry_at}
 use Rattle.mn_cell.specs.Runs.{IsIssueOf}
 use Rattle.mn_cell.specs.Station.{StationState}
 use Rattle.mn_cell.proofs.Owed.{newest_entry}
-use Rattle.mn_world.specs.declared.entry.Entry.{Entry}
-use Rattle.mn_world.specs.declared.entry.What.{What}
-use Rattle.mn_world.specs.declared.entry.What.TheVariants.{Stopped, Restarted}
-use Rattle.mn_world.specs.Calls.{Begun, begun_in, begun_of, call_in, is_in_doubt, node_entries}
-use Rattle.mn_world.specs.Lists.{ClientState}
-use Rattle.mn_world.specs.Nodes.{is_down}
-use Rattle.mn_world.specs.Protocol.{IsOfRun, Start}
-use Rattle.mn_world.specs.Run.{entries_of}
+use Rattle.mn_runs.specs.declared.entry.Entry.{Entry}
+use Rattle.mn_runs.specs.declared.entry.What.{What}
+use Rattle.mn_runs.specs.declared.entry.What.TheVariants.{Stopped, Restarted}
+use Rattle.mn_runs.specs.Calls.{Begun, begun_in, begun_of, call_in, is_in_doubt, node_entries}
+use Rattle.mn_runs.specs.Lists.{ClientState}
+use Rattle.mn_runs.specs.Nodes.{is_down}
+use Rattle.mn_runs.specs.Protocol.{IsOfRun, Start, entries_of}
 use Rattle.mn_callers.specs.Desks.{DoubtsNothing, IsOfRecovery}
 use Rattle.mn_callers.specs.Doings.{Halts, Restarts}
 use Rattle.mn_callers.specs.Failed.{closer}

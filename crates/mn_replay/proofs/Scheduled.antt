@@ -7,14 +7,13 @@ use Rattle.mn_recov.specs.Recovery.{Recovery}
 use Rattle.mn_script.specs.declared.elements.Act.{Act}
 use Rattle.mn_script.specs.declared.elements.Act.TheVariants as acts
 use Rattle.mn_script.specs.Script.{Script}
-use Rattle.mn_world.specs.declared.entry.Entry.{Entry}
-use Rattle.mn_world.specs.Calls.{client_entries, node_entries}
-use Rattle.mn_world.specs.declared.entry.What.TheVariants.{Restarted, Stopped}
-use Rattle.mn_world.specs.Laws.{RecordsStaySound}
-use Rattle.mn_world.specs.Nodes.{is_down}
-use Rattle.mn_world.specs.OneHistory.{AreFree}
-use Rattle.mn_world.specs.Protocol.{Start}
-use Rattle.mn_world.specs.Run.{IsRun, RunsFollowProtocol, entries_of}
+use Rattle.mn_runs.specs.declared.entry.Entry.{Entry}
+use Rattle.mn_runs.specs.Calls.{client_entries, node_entries}
+use Rattle.mn_runs.specs.declared.entry.What.TheVariants.{Restarted, Stopped}
+use Rattle.mn_commits.specs.Laws.{RecordsStaySound}
+use Rattle.mn_runs.specs.Nodes.{is_down}
+use Rattle.mn_runs.specs.Protocol.{AreFree, Start, entries_of}
+use Rattle.mn_law.specs.Run.{IsRun, RunsFollowProtocol}
 use Rattle.mn_cell.specs.Calls.{entry_at}
 use Rattle.mn_callers.specs.Failed.{closer}
 use Rattle.mn_replay.specs.Follows.{Follows, IsPlayed}

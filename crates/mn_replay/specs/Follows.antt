@@ -2,9 +2,8 @@
 use Rattle.std.specs.Prelude.{◌≡◌, List, ◌++◌, Option}
 use Rattle.mn_recov.specs.Recovery.{Recovery}
 use Rattle.mn_script.specs.Script.{Script}
-use Rattle.mn_world.specs.declared.entry.Entry.{Entry}
-use Rattle.mn_world.specs.OneHistory.{AreFree}
-use Rattle.mn_world.specs.Protocol.{Start}
+use Rattle.mn_runs.specs.declared.entry.Entry.{Entry}
+use Rattle.mn_runs.specs.Protocol.{AreFree, Start}
 use Rattle.mn_callers.specs.Closing.{AreOfCloser}
 use Rattle.mn_replay.specs.Schedule.{DoesActs, acts_of, played_from}
 use Rattle.mn_callers.specs.Trace.{StartsSound}

@@ -8,10 +8,10 @@ use Rattle.mn_base.specs.declared.ids.ClientNo.{ClientNo}
 use Rattle.mn_script.specs.declared.elements.Act.{Act}
 use Rattle.mn_script.specs.declared.elements.Act.TheVariants as acts
 use Rattle.mn_script.specs.Script.{Script}
-use Rattle.mn_world.specs.declared.entry.Entry.{Entry}
-use Rattle.mn_world.specs.declared.entry.What.TheVariants.{Stopped, Restarted}
-use Rattle.mn_world.specs.Calls.{node_entries, client_entries}
-use Rattle.mn_world.specs.Nodes.{is_down}
+use Rattle.mn_runs.specs.declared.entry.Entry.{Entry}
+use Rattle.mn_runs.specs.declared.entry.What.TheVariants.{Stopped, Restarted}
+use Rattle.mn_runs.specs.Calls.{node_entries, client_entries}
+use Rattle.mn_runs.specs.Nodes.{is_down}
 use Rattle.mn_cell.specs.Calls.{entry_at}
 use Rattle.mn_recov.specs.Recovery.{Recovery}
 use Rattle.mn_callers.specs.Acts.{DoesStep, DoesPlan, DoesGo, DoesAll, role_of}

@@ -2,9 +2,9 @@
 ghost use Rattle.std.specs.Prelude.{◌≡◌, ◌≤◌, ◌<◌, List, length, IfErr, MatchOption, OnOk, ⊤};
 ghost use Rattle.mn_mini.specs.RecordGrammar.{IsTid};
 ghost use Rattle.mn_script.specs.Script.{IsAct};
-ghost use Rattle.mn_world.specs.Calls.{issues_of};
-ghost use Rattle.mn_world.specs.declared.entry.Entry.{Entry};
-ghost use Rattle.mn_world.specs.Protocol.{start_of};
+ghost use Rattle.mn_runs.specs.Calls.{issues_of};
+ghost use Rattle.mn_runs.specs.declared.entry.Entry.{Entry};
+ghost use Rattle.mn_runs.specs.Protocol.{start_of};
 ghost use Rattle.mn_callers.specs.Causes.{IsCaused};
 ghost use Rattle.mn_callers.specs.Clients.{last_shared};
 ghost use Rattle.mn_callers.specs.Desks.{IsDesk};
@@ -24,8 +24,8 @@ use mn_base::{ClientNo, NoMemory, NodeNo, OpenGate, Tid};
 use mn_callers::{CLOSER, Desk, FIRST_RECOVERER, Move, Stage, Table};
 use mn_cell::{Named, RunCause};
 use mn_io::Disk;
+use mn_law::CoreLaw;
 use mn_script::{Act, Script};
-use mn_world::CoreLaw;
 use std::alloc::Global;
 
 /// The recovery coordinator works: one call, or as far as it comes.

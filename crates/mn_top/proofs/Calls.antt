@@ -8,7 +8,7 @@ use Rattle.mn_top.specs.declared.due.Due.{Due}
 use Rattle.mn_top.specs.declared.due.Due.TheVariants.{Report, Usage, Refused, ReadFault, DiskFault, Damaged, NoMemory, Disks, Unbuilt}
 use Rattle.mn_top.specs.declared.words.Command.{Command}
 use Rattle.mn_top.specs.declared.words.Command.TheVariants.{Replay, Run, Gen, Check}
-use Rattle.mn_world.specs.declared.entry.Entry.{Entry}
+use Rattle.mn_runs.specs.declared.entry.Entry.{Entry}
 use Rattle.mn_top.specs.Ending.{ComesTo, EndsEarly, HasFailed, Replaying}
 use Rattle.mn_top.specs.Program.{IsDue, IsDueBefore, IsLine}
 use Rattle.mn_top.specs.Words.{AskFor, AskScript, Asked, Asks, Text, asked_on, is_there, plays_script}

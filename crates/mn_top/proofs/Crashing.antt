@@ -17,15 +17,16 @@ use Rattle.mn_node.specs.Node.{added_to, bodies_of}
 use Rattle.mn_node.proofs.Built.{all-reverse}
 use Rattle.mn_node.proofs.Found.{first_sound, pending_sound}
 use Rattle.mn_redo.specs.Grammar.{Stands}
-use Rattle.mn_world.specs.declared.entry.Entry.{Entry}
-use Rattle.mn_world.specs.declared.entry.What.TheVariants.{Restarted}
-use Rattle.mn_world.specs.Calls.{node_entries}
-use Rattle.mn_world.specs.History.{pasts_of}
-use Rattle.mn_world.specs.Meaning.{IsStop, OpenedRun, StopsLeaveOpened}
-use Rattle.mn_world.specs.Opened.{IsOpened}
-use Rattle.mn_world.specs.Nodes.{NodeAllows, added_by, is_down, node_records, stopped_request}
-use Rattle.mn_world.specs.Protocol.{FollowsProtocol, Start, base_at, records_of, start_nodes, start_of, start_records}
-use Rattle.mn_world.specs.Run.{RunsFollowProtocol, entries_of}
+use Rattle.mn_runs.specs.declared.entry.Entry.{Entry}
+use Rattle.mn_runs.specs.declared.entry.What.TheVariants.{Restarted}
+use Rattle.mn_runs.specs.Calls.{node_entries}
+use Rattle.mn_serial.specs.History.{pasts_of}
+use Rattle.mn_serial.specs.Meaning.{IsStop, OpenedRun, StopsLeaveOpened}
+use Rattle.mn_law.specs.Opened.{IsOpened}
+use Rattle.mn_runs.specs.Nodes.{NodeAllows, added_by, is_down, node_records, stopped_request}
+use Rattle.mn_runs.specs.Protocol.{FollowsProtocol, Start, base_at, records_of, start_nodes, start_of, start_records}
+use Rattle.mn_law.specs.Run.{RunsFollowProtocol}
+use Rattle.mn_runs.specs.Protocol.{entries_of}
 use Rattle.mn_script.specs.Script.{Script}
 use Rattle.mn_top.specs.declared.words.Command.{Command}
 use Rattle.mn_top.specs.Crashes.{AreOpenable, HoldStore, StayOpenable, bases}

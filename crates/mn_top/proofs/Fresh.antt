@@ -12,10 +12,11 @@ use Rattle.mn_mini.specs.declared.record.Record.{Record}
 use Rattle.mn_mini.specs.Node.{HeldPart, has_decided_no, has_decided_yes, has_executed, held_parts, space_of, with_held}
 use Rattle.mn_page.specs.Base.{base_of}
 use Rattle.mn_page.specs.Holds.{Holds}
-use Rattle.mn_world.specs.Opened.{AreInPlace, AreSound, HeldAreGreater, is_committed, opened_memory, voted_participants}
-use Rattle.mn_world.specs.Places.{WritesWhole, content_in, number_in}
-use Rattle.mn_world.specs.Protocol.{base_at, start_of, start_records}
-use Rattle.mn_world.proofs.Bytes.Bases.{base_there}
+use Rattle.mn_runs.specs.Sound.{AreInPlace, AreSound, is_committed, opened_memory, voted_participants}
+use Rattle.mn_law.specs.Opened.{HeldAreGreater}
+use Rattle.mn_law.specs.Places.{WritesWhole, content_in, number_in}
+use Rattle.mn_runs.specs.Protocol.{base_at, start_of, start_records}
+use Rattle.mn_runs.proofs.Bases.{base_there}
 use Rattle.mn_top.specs.Opening.{IsOpenedAs}
 
 abbrev have_none : List (List Record) → Bool

@@ -18,10 +18,10 @@ use Rattle.mn_page.specs.Grammar.{padded}
 use Rattle.mn_page.specs.Space.{space_length}
 use Rattle.mn_page.proofs.BaseSpace.{base_is}
 use Rattle.mn_page.proofs.Spelled.{length-padded}
-use Rattle.mn_world.specs.Opened.{is_committed, opened_memory}
-use Rattle.mn_world.specs.Protocol.{Start, base_at, start_nodes, start_of, start_records}
-use Rattle.mn_world.proofs.Bytes.Bases.{base_there}
-use Rattle.mn_world.proofs.Plans.Spaces.{front_length}
+use Rattle.mn_runs.specs.Sound.{is_committed, opened_memory}
+use Rattle.mn_runs.specs.Protocol.{Start, base_at, start_nodes, start_of, start_records}
+use Rattle.mn_runs.proofs.Bases.{base_there}
+use Rattle.mn_plans.proofs.Spaces.{front_length}
 
 -- Base spaces
 

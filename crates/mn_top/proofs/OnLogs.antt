@@ -20,10 +20,10 @@ use Rattle.mn_redo.specs.Redo.{RedoState, StandsFor}
 use Rattle.mn_callers.specs.Trace.{MayBegin}
 use Rattle.mn_script.specs.Script.{Script}
 use Rattle.mn_top.specs.declared.words.Command.{Command}
-use Rattle.mn_world.specs.declared.entry.Entry.{Entry}
-use Rattle.mn_world.specs.Opened.{AreSound}
-use Rattle.mn_world.specs.Protocol.{start_of, start_records}
-use Rattle.mn_world.proofs.Votes.Held.{in_place_apart}
+use Rattle.mn_runs.specs.declared.entry.Entry.{Entry}
+use Rattle.mn_runs.specs.Sound.{AreSound}
+use Rattle.mn_runs.specs.Protocol.{start_of, start_records}
+use Rattle.mn_runs.proofs.Records.{in_place_apart}
 use Rattle.mn_top.specs.declared.due.DamageRule.TheVariants.{Log, Votes, Both, Forest, Runs, Kept}
 use Rattle.mn_top.specs.declared.due.Due.{Due}
 use Rattle.mn_top.specs.declared.due.Due.TheVariants.{Report, Usage, Refused, ReadFault, DiskFault, Damaged, NoMemory, Disks, Unbuilt}

@@ -22,12 +22,12 @@ use Rattle.mn_callers.specs.Failed.{FailsSo, HadOther, HasCause, IsDamage, IsRun
 use Rattle.mn_callers.specs.Trace.{AreHandedBack, IsHandedBack, IsOfScript, IsQuiet, IsTrace, StartsSound, start_on}
 use Rattle.mn_script.specs.Script.{Script}
 use Rattle.mn_top.specs.declared.words.Command.{Command}
-use Rattle.mn_world.specs.declared.entry.Entry.{Entry}
-use Rattle.mn_world.specs.Calls.{node_entries}
-use Rattle.mn_world.specs.Nodes.{added_by, is_down, stopped_request}
-use Rattle.mn_world.specs.Protocol.{Start, base_at, records_of, start_nodes, start_of}
-use Rattle.mn_world.specs.Run.{IsLogOfRun, entries_of}
-use Rattle.mn_world.specs.Undisturbed.{UndisturbedIsAnswered}
+use Rattle.mn_runs.specs.declared.entry.Entry.{Entry}
+use Rattle.mn_runs.specs.Calls.{node_entries}
+use Rattle.mn_runs.specs.Nodes.{added_by, is_down, stopped_request}
+use Rattle.mn_runs.specs.Protocol.{Start, base_at, records_of, start_nodes, start_of, entries_of}
+use Rattle.mn_law.specs.Run.{IsLogOfRun}
+use Rattle.mn_causes.specs.Undisturbed.{UndisturbedIsAnswered}
 use Rattle.mn_top.specs.declared.due.Due.{Due}
 use Rattle.mn_top.specs.declared.due.Due.TheVariants.{Report, Usage, Refused, ReadFault, DiskFault, Damaged, NoMemory, Disks, Unbuilt}
 use Rattle.mn_top.specs.Ending.{ComesTo, HasRun}

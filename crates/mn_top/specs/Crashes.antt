@@ -11,7 +11,7 @@ use Rattle.mn_mini.specs.RecordGrammar.{IsRecord}
 use Rattle.mn_node.specs.Node.{bodies_of}
 use Rattle.mn_page.specs.Base.{base_of}
 use Rattle.mn_redo.specs.Grammar.{Stands}
-use Rattle.mn_world.specs.Opened.{IsOpened}
+use Rattle.mn_law.specs.Opened.{IsOpened}
 
 -- one image of each disk, in order
 pub record AreImages {D : Type 0} (state : D → DiskState) (disks : List D)

@@ -11,12 +11,13 @@ use Rattle.mn_mini.specs.declared.record.Record.{Record}
 use Rattle.mn_callers.specs.Failed.{HadOther, RoseBeyond}
 use Rattle.mn_callers.specs.Trace.{IsOfScript}
 use Rattle.mn_script.specs.Script.{Script}
-use Rattle.mn_world.specs.declared.entry.Entry.{Entry}
-use Rattle.mn_world.specs.Calls.{node_entries}
-use Rattle.mn_world.specs.Nodes.{is_down}
-use Rattle.mn_world.specs.Opened.{AreSound, HeldAreGreater, opened_memory}
-use Rattle.mn_world.specs.Protocol.{base_at, start_of, start_records}
-use Rattle.mn_world.specs.Run.{IsLogOfRun, entries_of}
+use Rattle.mn_runs.specs.declared.entry.Entry.{Entry}
+use Rattle.mn_runs.specs.Calls.{node_entries}
+use Rattle.mn_runs.specs.Nodes.{is_down}
+use Rattle.mn_runs.specs.Sound.{AreSound, opened_memory}
+use Rattle.mn_law.specs.Opened.{HeldAreGreater}
+use Rattle.mn_runs.specs.Protocol.{base_at, start_of, start_records, entries_of}
+use Rattle.mn_law.specs.Run.{IsLogOfRun}
 use Rattle.mn_top.specs.declared.words.Command.{Command}
 use Rattle.mn_top.specs.declared.due.DamageRule.{DamageRule}
 use Rattle.mn_top.specs.declared.due.DamageRule.TheVariants.{Log, Votes, Both, Forest, Runs, Kept}

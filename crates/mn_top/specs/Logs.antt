@@ -24,8 +24,8 @@ use Rattle.mn_redo.specs.declared.redo.Phase.TheVariants.{Closing}
 use Rattle.mn_report.specs.declared.report.Report.{Report}
 use Rattle.mn_report.specs.Report.{report_text}
 use Rattle.mn_script.specs.Script.{Script}
-use Rattle.mn_world.specs.declared.entry.Entry.{Entry}
-use Rattle.mn_world.specs.Protocol.{Start, run_number, start_of}
+use Rattle.mn_runs.specs.declared.entry.Entry.{Entry}
+use Rattle.mn_runs.specs.Protocol.{Start, run_number, start_of}
 use Rattle.mn_top.specs.declared.due.DamageRule.TheVariants.{Both, Forest, Kept, Log, Votes}
 use Rattle.mn_top.specs.declared.due.Due.{Due}
 use Rattle.mn_top.specs.declared.due.Due.TheVariants as dues

@@ -8,8 +8,8 @@ use Rattle.mn_mini.specs.RecordGrammar.{IsRecord}
 use Rattle.mn_node.specs.Node.{bodies_of}
 use Rattle.mn_node.specs.State.{AreRecords, IsFirstBadBody}
 use Rattle.mn_redo.specs.Grammar.{AreInFront, IsDamaged, Stands}
-use Rattle.mn_world.specs.Opened.{IsOpened}
-use Rattle.mn_world.specs.Protocol.{Start, base_at, run_number, start_nodes, start_records}
+use Rattle.mn_law.specs.Opened.{IsOpened}
+use Rattle.mn_runs.specs.Protocol.{Start, base_at, run_number, start_nodes, start_records}
 
 -- Records
 

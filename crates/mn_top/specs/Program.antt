@@ -16,7 +16,7 @@ use Rattle.mn_top.specs.declared.due.Due.TheVariants.{Report, Usage, Refused, Re
 use Rattle.mn_top.specs.declared.due.Due.TheVariants.{Damaged, NoMemory, Disks, Unbuilt}
 use Rattle.mn_top.specs.declared.words.Command.{Command}
 use Rattle.mn_top.specs.Ending.{ComesTo}
-use Rattle.mn_world.specs.declared.entry.Entry.{Entry}
+use Rattle.mn_runs.specs.declared.entry.Entry.{Entry}
 use Rattle.mn_top.specs.Words.{Asked, Asks, AskFor, AskNothing, AskScript, is_there}
 
 -- What is written

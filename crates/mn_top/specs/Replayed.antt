@@ -21,14 +21,13 @@ use Rattle.mn_callers.specs.Trace.{IsOfScript, IsQuiet}
 use Rattle.mn_report.specs.declared.report.Report.{Report}
 use Rattle.mn_report.specs.Report.{report_text}
 use Rattle.mn_script.specs.Script.{Script}
-use Rattle.mn_world.specs.declared.entry.Entry.{Entry}
-use Rattle.mn_world.specs.Calls.{node_entries}
-use Rattle.mn_world.specs.Nodes.{added_by, is_down, stopped_request}
-use Rattle.mn_world.specs.Protocol.{Start, base_at, records_of, start_nodes, start_of}
-use Rattle.mn_world.specs.Protocol.{start_records}
-use Rattle.mn_world.specs.OneHistory.{AreFree}
-use Rattle.mn_world.specs.Run.{IsLogOfRun, entries_of}
-use Rattle.mn_world.specs.Undisturbed.{IsReplyOrWant, IsUndisturbed}
+use Rattle.mn_runs.specs.declared.entry.Entry.{Entry}
+use Rattle.mn_runs.specs.Calls.{node_entries}
+use Rattle.mn_runs.specs.Nodes.{added_by, is_down, stopped_request}
+use Rattle.mn_runs.specs.Protocol.{Start, base_at, records_of, start_nodes, start_of, start_records}
+use Rattle.mn_runs.specs.Protocol.{AreFree, entries_of}
+use Rattle.mn_law.specs.Run.{IsLogOfRun}
+use Rattle.mn_causes.specs.Undisturbed.{IsReplyOrWant, IsUndisturbed}
 use Rattle.mn_cluster.specs.Follows.{FollowsOnThreads, FollowsToClosing}
 use Rattle.mn_top.specs.declared.words.Command.{Command}
 use Rattle.mn_top.specs.declared.words.Command.TheVariants.{Run}

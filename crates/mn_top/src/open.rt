@@ -11,7 +11,7 @@ ghost use Rattle.mn_top.specs.Ending.{ComesTo};
 ghost use Rattle.mn_top.specs.Logs.{AllRead, AreJudged, MakeStart, WasRead, WasRefused};
 ghost use Rattle.mn_top.specs.Logs.{WasntRead};
 ghost use Rattle.mn_top.specs.Opening.{IsOpenedAs};
-ghost use Rattle.mn_world.specs.Protocol.{start_of};
+ghost use Rattle.mn_runs.specs.Protocol.{start_of};
 
 use crate::damage::{due_of_forest, due_of_open, due_of_start, due_of_votes};
 use crate::due::{DamageRule, Due};

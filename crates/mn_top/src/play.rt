@@ -12,15 +12,15 @@ ghost use Rattle.mn_top.specs.Logs.{MayAllBeStarted, WerentStarted, due_of_faili
 ghost use Rattle.mn_top.specs.Opening.{Show};
 ghost use Rattle.mn_top.specs.Replayed.{FollowsBy, FollowsToClosingBy};
 ghost use Rattle.mn_top.specs.declared.due.Due.TheVariants.{Report};
-ghost use Rattle.mn_world.specs.Meaning.{OpenedRun};
-ghost use Rattle.mn_world.specs.Protocol.{Start, run_number};
-ghost use Rattle.mn_world.specs.Run.{entries_of};
+ghost use Rattle.mn_serial.specs.Meaning.{OpenedRun};
+ghost use Rattle.mn_runs.specs.Protocol.{Start, run_number, entries_of};
 
 use crate::damage::due_of_start;
 use crate::due::{DamageRule, Due};
 use crate::open::{Judged, Logs, NotOpened, close_all, judge, open_all};
 use crate::words::Command;
 use mn_base::{Bytes, Gate, NoMemory, NodeNo};
+use mn_causes::undisturbed_is_answered;
 use mn_cell::{RunCause, RunFailed, Trace};
 use mn_cluster::run_threads;
 use mn_hist::audit;
@@ -30,8 +30,8 @@ use mn_plain::Store;
 use mn_redo::Redo;
 use mn_replay::replay;
 use mn_report::write_report;
+use mn_runs::Log;
 use mn_script::Script;
-use mn_world::{Log, undisturbed_is_answered};
 use std::alloc::Global;
 use std::sync::Wait;
 use std::thread::Threads;

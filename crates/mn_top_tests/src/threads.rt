@@ -4,7 +4,7 @@ use crate::rows::SCRIPTS_OF_ONE_CLIENT;
 use mn_base::{ClientNo, Gate, NodeNo, OpenGate};
 use mn_memdisk::{MeetDisk, Meeting};
 use mn_mini::Request;
-use mn_world::{Entry, Log, What};
+use mn_runs::{Entry, Log, What};
 use std::alloc::Global;
 use std::sync::atomic::{AtomicU64, Ordering};
 use std::sync::{Arc, Wait};

@@ -13,7 +13,7 @@ use Rattle.mn_page.specs.declared.page.Page.{Page}
 use Rattle.mn_page.specs.Grammar.{entry_bytes}
 use Rattle.mn_tree.specs.Order.{placed}
 use Rattle.mn_tree.specs.Moves.{Move, came_at, leaves_at}
-use Rattle.mn_world.specs.Growth.{giving_nodes, node_no, taken_on}
+use Rattle.mn_plans.specs.Growth.{giving_nodes, node_no, taken_on}
 use Rattle.mn_txn.specs.declared.image.Image.{Image}
 use Rattle.mn_txn.specs.declared.image.Turn.{Turn}
 use Rattle.mn_txn.specs.Order.{turn_of, turn_cmp, stands_before}

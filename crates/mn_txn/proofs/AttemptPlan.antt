@@ -29,10 +29,10 @@ use Rattle.mn_tree.specs.MoveLaws.{AreOnce, AreReads, MovesRead}
 use Rattle.mn_tree.specs.Limits.{ArePut, MovesAreFew, MovesTouchLeaves, PlacedArePut}
 use Rattle.mn_tree.specs.Tries.{PlacedHaveRoom}
 use Rattle.mn_tree.proofs.Trees.Told.{noted_filter}
-use Rattle.mn_world.specs.Planned.{IsPlanned}
-use Rattle.mn_world.specs.Growth.{AreDifferent, AreNextSlots, addrs_of, giving_nodes, node_no, taken_on}
-use Rattle.mn_world.proofs.Plans.NextSlots.{slots_differ}
-use Rattle.mn_world.proofs.Plans.Told.{all_there}
+use Rattle.mn_law.specs.Planned.{IsPlanned}
+use Rattle.mn_plans.specs.Growth.{AreDifferent, AreNextSlots, addrs_of, giving_nodes, node_no, taken_on}
+use Rattle.mn_plans.proofs.NextSlots.{slots_differ}
+use Rattle.mn_plans.proofs.Told.{all_there}
 use Rattle.mn_txn.specs.declared.attempt.Placing.{Placing}
 use Rattle.mn_txn.specs.declared.attempt.Tried.{Tried}
 use Rattle.mn_txn.specs.declared.error.PlanError.TheVariants.{Worn}

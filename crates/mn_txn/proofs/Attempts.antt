@@ -27,12 +27,13 @@ use Rattle.mn_page.proofs.Grid.{all_split}
 use Rattle.mn_tree.specs.Trees.{is_noted}
 use Rattle.mn_tree.specs.Moves.{done_in, came_at, leaves_at}
 use Rattle.mn_tree.specs.MoveLaws.{AreTold}
-use Rattle.mn_world.specs.Places.{Place, page_place, entry_place, catalog_node, count_place, front_place, IsPagePlace}
-use Rattle.mn_world.specs.Planned.{IsWholePlace, ComeOnce, compare_places, write_places, IsCompared, IsComparedFront, HasNextNumber, IsPickOf, page_write, WritesPages, PlanActs}
-use Rattle.mn_world.specs.Growth.{GoOn, node_no, addrs_of}
-use Rattle.mn_world.proofs.Plans.PutInPlace.{not_count}
-use Rattle.mn_world.proofs.Plans.SplitRoot.{page_places_apart}
-use Rattle.mn_world.proofs.Plans.Told.{all_there}
+use Rattle.mn_runs.specs.Seen.{Place}
+use Rattle.mn_law.specs.Places.{page_place, entry_place, catalog_node, count_place, front_place, IsPagePlace}
+use Rattle.mn_law.specs.Planned.{IsWholePlace, ComeOnce, compare_places, write_places, IsCompared, IsComparedFront, HasNextNumber, IsPickOf, page_write, WritesPages, PlanActs}
+use Rattle.mn_plans.specs.Growth.{GoOn, node_no, addrs_of}
+use Rattle.mn_plans.proofs.PutInPlace.{not_count}
+use Rattle.mn_plans.proofs.SplitRoot.{page_places_apart}
+use Rattle.mn_plans.proofs.Told.{all_there}
 use Rattle.mn_txn.specs.declared.image.Image.{Image}
 use Rattle.mn_txn.specs.State.{is_at, ImagesAreApart}
 use Rattle.mn_txn.specs.Plan.{compare_of, write_of}
@@ -40,7 +41,7 @@ use Rattle.mn_txn.specs.Laws.{image_place, image_front}
 use Rattle.mn_txn.specs.Attempt.{Attempt, page_image, came_images, entry_images, count_image}
 use Rattle.mn_txn.proofs.Plans.{compared, written}
 use Rattle.mn_txn.proofs.Lists.{contains_map, mapped_back, noted_has, has_noted, pick_behind, pick_mapped}
-use Rattle.mn_world.proofs.Plans.Compares.{fronts_compared}
+use Rattle.mn_plans.proofs.Compares.{fronts_compared}
 
 -- Places of images
 

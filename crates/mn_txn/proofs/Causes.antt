@@ -4,8 +4,9 @@ use Rattle.std.proofs.Common.{refl, sym, ap, ◌∙◌, arith}
 use Rattle.byteorder.specs.Endian.{big_bytes}
 use Rattle.mn_page.specs.Overlay.{Held, held_at}
 use Rattle.mn_tree.specs.Plain.{TriesShowNeeds}
-use Rattle.mn_world.specs.Places.{Place, page_place}
-use Rattle.mn_world.specs.Shown.{Seen, SeesPage}
+use Rattle.mn_runs.specs.Seen.{Place, Seen}
+use Rattle.mn_law.specs.Places.{page_place}
+use Rattle.mn_law.specs.Shown.{SeesPage}
 use Rattle.mn_txn.specs.Tries.{TriesShowCauses, WornPagesShow}
 use Rattle.mn_txn.proofs.Known.{came_of}
 

@@ -7,8 +7,8 @@ use Rattle.std.proofs.lemmas.Bool.Decides.{nat_tests}
 use Rattle.mn_base.specs.declared.ids.Addr.{Addr}
 use Rattle.mn_base.specs.declared.ids.VersionNo.{VersionNo}
 use Rattle.mn_page.specs.declared.page.Page.{Page}
-use Rattle.mn_world.specs.Planned.{place_rank}
-use Rattle.mn_world.proofs.Plans.Compares.{page_rank, entry_rank}
+use Rattle.mn_law.specs.Planned.{place_rank}
+use Rattle.mn_plans.proofs.Compares.{page_rank, entry_rank}
 use Rattle.mn_txn.specs.declared.image.Image.{Image}
 use Rattle.mn_txn.specs.declared.image.Turn.{Turn}
 use Rattle.mn_txn.specs.Order.{turn_of, turn_cmp, stands_before, placed, in_item_order}

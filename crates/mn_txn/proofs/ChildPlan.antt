@@ -33,12 +33,12 @@ use Rattle.mn_page.proofs.Spelled.{page_length, entry_length, same_addr}
 use Rattle.mn_page.proofs.Grid.{all_split}
 use Rattle.mn_catalog.specs.Grammar.{IsCatalog}
 use Rattle.mn_catalog.specs.Versions.{Numbered, numbered, branch_entries, snapshot_entries, AreEntries}
-use Rattle.mn_world.specs.Growth.{node_no}
-use Rattle.mn_world.proofs.Meaning.Faults.{same_number}
+use Rattle.mn_plans.specs.Growth.{node_no}
+use Rattle.mn_plans.proofs.Compares.{same_number}
 use Rattle.mn_txn.specs.declared.error.PlanError.{PlanError}
 use Rattle.mn_txn.specs.declared.error.PlanError.TheVariants.{Worn, NoMemory}
-use Rattle.mn_world.specs.Planned.{IsPlanned}
-use Rattle.mn_world.specs.declared.entry.Entry.{Entry}
+use Rattle.mn_law.specs.Planned.{IsPlanned}
+use Rattle.mn_runs.specs.declared.entry.Entry.{Entry}
 use Rattle.mn_base.specs.declared.reply.Reply.TheVariants as says
 use Rattle.mn_txn.specs.declared.image.Image.{Image}
 use Rattle.mn_txn.specs.State.{State, is_at, joined, bytes_at, ImagesAreApart}

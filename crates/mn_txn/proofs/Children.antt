@@ -29,16 +29,16 @@ use Rattle.mn_base.proofs.VersionTree.{child_admitted}
 use Rattle.mn_base.proofs.Lists.{all_append}
 use Rattle.mn_page.proofs.Spelled.{entry_length}
 use Rattle.mn_tree.proofs.Trees.Puts.{same_itself}
-use Rattle.mn_world.specs.Places.{Place, page_place, entry_place, catalog_node, count_place, front_place, IsPagePlace}
-use Rattle.mn_world.specs.declared.entry.Entry.{Entry}
-use Rattle.mn_world.specs.Planned.{IsWholePlace, ComeOnce, compare_places, write_places, IsRootOf, IsWrittenCount, IsCompared, IsComparedFront, HasNextNumber, IsPickOf, WritesPages, ContinuesCatalog, PlanActs, ComparesHold}
-use Rattle.mn_world.specs.Plans.{write_page, write_count}
-use Rattle.mn_world.specs.Growth.{taken_on, AreNextSlots, node_no, count_in, count_writes, AreCounts, AreDifferent, NextSlotsAreFree, over, write_held, Numbered, write_entry, write_numbered, entries_with, entries_after, AreNextEntries, WritesLeaveVersions, AreMet, ComparesTell, NumbersGoOn}
-use Rattle.mn_world.proofs.Plans.Compares.{still_named, fronts_compared}
-use Rattle.mn_world.proofs.Plans.Entries.{with_within, with_behind}
-use Rattle.mn_world.proofs.Plans.Grown.{addr_differs}
-use Rattle.mn_world.proofs.Plans.PutInPlace.{not_count}
-use Rattle.mn_world.proofs.Meaning.Kept.{number_within}
+use Rattle.mn_runs.specs.Seen.{Place}
+use Rattle.mn_law.specs.Places.{page_place, entry_place, catalog_node, count_place, front_place, IsPagePlace}
+use Rattle.mn_runs.specs.declared.entry.Entry.{Entry}
+use Rattle.mn_law.specs.Planned.{IsWholePlace, ComeOnce, compare_places, write_places, IsRootOf, IsWrittenCount, IsCompared, IsComparedFront, HasNextNumber, IsPickOf, WritesPages, ContinuesCatalog, PlanActs, ComparesHold}
+use Rattle.mn_plans.specs.Plans.{write_page, write_count}
+use Rattle.mn_plans.specs.Growth.{taken_on, AreNextSlots, node_no, count_in, count_writes, AreCounts, AreDifferent, NextSlotsAreFree, over, write_held, Numbered, write_entry, write_numbered, entries_with, entries_after, AreNextEntries, WritesLeaveVersions, AreMet, ComparesTell, NumbersGoOn}
+use Rattle.mn_plans.proofs.Compares.{still_named, fronts_compared, number_within}
+use Rattle.mn_plans.proofs.Entries.{with_within, with_behind}
+use Rattle.mn_plans.proofs.Grown.{addr_differs}
+use Rattle.mn_plans.proofs.PutInPlace.{not_count}
 use Rattle.mn_txn.specs.declared.image.Image.{Image}
 use Rattle.mn_txn.specs.State.{image, ImagesAreApart}
 use Rattle.mn_txn.specs.Order.{in_item_order}

@@ -33,12 +33,12 @@ use Rattle.mn_tree.specs.Laws.{ReadsAreDraft, AreFreeSlots, held_pair}
 use Rattle.mn_tree.specs.Moves.{comes_in, done_in, came_at, is_leaf_at, leaves_at, pairs_after}
 use Rattle.mn_tree.specs.MoveLaws.{IsStep, AreTold, MovesTell, AreOnce, AreReads, MovesRead, MovesComeOnce, ArePlaced, MovesArePlaced, QuietMoves}
 use Rattle.mn_tree.proofs.Trees.Told.{noted_filter}
-use Rattle.mn_world.specs.Places.{page_place}
-use Rattle.mn_world.specs.declared.entry.Entry.{Entry}
-use Rattle.mn_world.specs.Planned.{ContinuesCatalog, PlanActs, IsPickOf, ComparesHold}
-use Rattle.mn_world.specs.Plans.{write_count}
-use Rattle.mn_world.specs.Growth.{AreNextSlots, taken_on, giving_nodes, node_no, count_writes, addrs_of, AreCounts, AreDifferent, NextSlotsAreFree, write_held, WritesLeaveStore, ComparesTell, NumbersGoOn}
-use Rattle.mn_world.proofs.Plans.Grown.{all_mapped}
+use Rattle.mn_law.specs.Places.{page_place}
+use Rattle.mn_runs.specs.declared.entry.Entry.{Entry}
+use Rattle.mn_law.specs.Planned.{ContinuesCatalog, PlanActs, IsPickOf, ComparesHold}
+use Rattle.mn_plans.specs.Plans.{write_count}
+use Rattle.mn_plans.specs.Growth.{AreNextSlots, taken_on, giving_nodes, node_no, count_writes, addrs_of, AreCounts, AreDifferent, NextSlotsAreFree, write_held, WritesLeaveStore, ComparesTell, NumbersGoOn}
+use Rattle.mn_plans.proofs.Grown.{all_mapped}
 use Rattle.mn_txn.specs.declared.image.Image.{Image}
 use Rattle.mn_txn.specs.State.{ImagesAreApart}
 use Rattle.mn_txn.specs.Order.{in_item_order}

@@ -32,7 +32,7 @@ use Rattle.mn_tree.specs.Limits.{MovesAreFew, MovesTouchLeaves, ArePut, PlacedAr
 use Rattle.mn_tree.proofs.Trees.Told.{noted_filter}
 use Rattle.mn_tree.proofs.Trees.Filled.{shorter}
 use Rattle.mn_tree.proofs.Trees.Placing.{range_low}
-use Rattle.mn_world.specs.Growth.{AreNextSlots, taken_on, giving_nodes}
+use Rattle.mn_plans.specs.Growth.{AreNextSlots, taken_on, giving_nodes}
 use Rattle.mn_txn.specs.declared.image.Image.{Image}
 use Rattle.mn_txn.specs.State.{State}
 use Rattle.mn_txn.specs.Order.{stands_before, in_item_order}

@@ -27,16 +27,15 @@ use Rattle.mn_tree.specs.Moves.{Move, comes_in, came_at, is_leaf_at, leaves_at}
 use Rattle.mn_tree.specs.MoveLaws.{AgreesWithEntries, AreTold, MovesTell, AreReads, MovesRead, MovesComeOnce}
 use Rattle.mn_tree.proofs.Trees.Puts.{addr_is}
 use Rattle.mn_tree.proofs.Trees.Told.{noted_filter}
-use Rattle.mn_world.specs.declared.entry.Entry.{Entry}
-use Rattle.mn_world.specs.Places.{IsNumbered}
-use Rattle.mn_world.specs.Shown.{ShowsLast}
-use Rattle.mn_world.specs.Plans.{ShowsPage, ShowsEntry}
-use Rattle.mn_world.specs.Planned.{ContinuesCatalog, ComparesHold}
-use Rattle.mn_world.proofs.Plans.Told.{all_there}
-use Rattle.mn_world.specs.Growth.{AreNextSlots, taken_on, giving_nodes, node_no, count_in, AreMet, ComparesTell}
-use Rattle.mn_world.proofs.Plans.Compares.{still_named}
-use Rattle.mn_world.proofs.Plans.Kept.{serves_kept}
-use Rattle.mn_world.proofs.Meaning.Kept.{number_within}
+use Rattle.mn_runs.specs.declared.entry.Entry.{Entry}
+use Rattle.mn_law.specs.Places.{IsNumbered}
+use Rattle.mn_law.specs.Shown.{ShowsLast}
+use Rattle.mn_plans.specs.Plans.{ShowsPage, ShowsEntry}
+use Rattle.mn_law.specs.Planned.{ContinuesCatalog, ComparesHold}
+use Rattle.mn_plans.proofs.Told.{all_there}
+use Rattle.mn_plans.specs.Growth.{AreNextSlots, taken_on, giving_nodes, node_no, count_in, AreMet, ComparesTell}
+use Rattle.mn_plans.proofs.Compares.{still_named, number_within}
+use Rattle.mn_plans.proofs.Kept.{serves_kept}
 use Rattle.mn_txn.specs.declared.image.Image.{Image}
 use Rattle.mn_txn.specs.Plan.{compare_of}
 use Rattle.mn_txn.specs.Laws.{image_place, ReadsAreShown}

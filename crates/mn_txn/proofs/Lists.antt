@@ -5,8 +5,8 @@ use Rattle.mn_base.specs.Ids.{addr_same}
 use Rattle.mn_base.specs.declared.ids.Addr.{Addr}
 use Rattle.mn_tree.specs.Trees.{is_noted}
 use Rattle.mn_tree.proofs.Trees.Puts.{addr_is, same_itself}
-use Rattle.mn_world.specs.Places.{Place}
-use Rattle.mn_world.specs.Planned.{IsPickOf}
+use Rattle.mn_runs.specs.Seen.{Place}
+use Rattle.mn_law.specs.Planned.{IsPickOf}
 
 pub contains_map : {X Y : Type 0} (f : X → Y) (xs : List X) (x : X) → Contains xs x → Contains (map f xs) (f x)
 contains_map f [] x (k, low, is) = absurd (omega arith)

@@ -9,11 +9,12 @@ use Rattle.std.proofs.lemmas.List.Sorted.{IsPermutation-refl, IsPermutation-sym,
 use Rattle.mn_base.proofs.Booleans.{both_true}
 use Rattle.mn_mini.specs.declared.item.Item.{Item}
 use Rattle.mn_mini.specs.declared.item.Item.TheVariants.{Compare, Write}
-use Rattle.mn_world.specs.declared.entry.Entry.{Entry}
-use Rattle.mn_world.specs.Places.{Place, IsNumbered}
-use Rattle.mn_world.specs.Shown.{ShowsLast, ShowsNumber}
-use Rattle.mn_world.proofs.Plans.Compares.{shows_front, count_front}
-use Rattle.mn_world.specs.Planned.{compare_place, write_place, compare_places, write_places, place_rank, may_precede, are_in_order, IsNextNumber, OnNumber}
+use Rattle.mn_runs.specs.declared.entry.Entry.{Entry}
+use Rattle.mn_runs.specs.Seen.{Place}
+use Rattle.mn_law.specs.Places.{IsNumbered}
+use Rattle.mn_law.specs.Shown.{ShowsLast, ShowsNumber}
+use Rattle.mn_plans.proofs.Compares.{shows_front, count_front}
+use Rattle.mn_law.specs.Planned.{compare_place, write_place, compare_places, write_places, place_rank, may_precede, are_in_order, IsNextNumber, OnNumber}
 use Rattle.mn_txn.specs.declared.image.Image.{Image}
 use Rattle.mn_txn.specs.declared.image.Turn.{Turn}
 use Rattle.mn_txn.specs.State.{State, is_at, ImagesAreApart}

@@ -18,9 +18,9 @@ use Rattle.mn_tree.specs.Laws.{ReadsAreDraft}
 use Rattle.mn_tree.specs.Moves.{came_at, is_leaf_at, leaves_at}
 use Rattle.mn_tree.specs.MoveLaws.{AreTold, MovesTell, AreReads, MovesRead, MovesComeOnce}
 use Rattle.mn_tree.proofs.Trees.Told.{noted_filter}
-use Rattle.mn_world.specs.declared.entry.Entry.{Entry}
-use Rattle.mn_world.specs.Planned.{ContinuesCatalog, PlanActs, ComparesHold}
-use Rattle.mn_world.specs.Growth.{ComparesTell, NumbersGoOn}
+use Rattle.mn_runs.specs.declared.entry.Entry.{Entry}
+use Rattle.mn_law.specs.Planned.{ContinuesCatalog, PlanActs, ComparesHold}
+use Rattle.mn_plans.specs.Growth.{ComparesTell, NumbersGoOn}
 use Rattle.mn_txn.specs.declared.image.Image.{Image}
 use Rattle.mn_txn.specs.State.{ImagesAreApart}
 use Rattle.mn_txn.specs.Order.{in_item_order}

@@ -26,8 +26,8 @@ use Rattle.mn_tree.specs.Moves.{came_at}
 use Rattle.mn_tree.specs.MoveLaws.{AreReads, MovesRead}
 use Rattle.mn_tree.specs.Limits.{ArePut, PlacedArePut}
 use Rattle.mn_tree.proofs.Trees.Told.{noted_filter}
-use Rattle.mn_world.specs.Growth.{AreNextSlots, taken_on, giving_nodes}
-use Rattle.mn_world.proofs.Plans.Told.{all_there}
+use Rattle.mn_plans.specs.Growth.{AreNextSlots, taken_on, giving_nodes}
+use Rattle.mn_plans.proofs.Told.{all_there}
 use Rattle.mn_txn.specs.declared.image.Image.{Image}
 use Rattle.mn_txn.specs.State.{State, is_at, bytes_at, ImagesAreApart}
 use Rattle.mn_txn.specs.Order.{in_item_order}

@@ -21,9 +21,9 @@ use Rattle.mn_tree.specs.Trees.{is_noted}
 use Rattle.mn_tree.specs.Order.{placed}
 use Rattle.mn_tree.specs.Moves.{Move, LeadsTo, comes_in, AreAnswered, came_at, leaves_at}
 use Rattle.mn_tree.specs.MoveLaws.{IsStep}
-use Rattle.mn_world.specs.declared.entry.Entry.{Entry}
-use Rattle.mn_world.specs.Planned.{IsPlanned}
-use Rattle.mn_world.specs.Growth.{AreNextSlots, taken_on, giving_nodes, node_no}
+use Rattle.mn_runs.specs.declared.entry.Entry.{Entry}
+use Rattle.mn_law.specs.Planned.{IsPlanned}
+use Rattle.mn_plans.specs.Growth.{AreNextSlots, taken_on, giving_nodes, node_no}
 use Rattle.mn_txn.specs.declared.image.Image.{Image}
 use Rattle.mn_txn.specs.State.{State, image, ImagesAreApart}
 use Rattle.mn_txn.specs.Order.{in_item_order}

@@ -16,9 +16,9 @@ use Rattle.mn_page.specs.Space.{max_slots, slot_start}
 use Rattle.mn_page.specs.Grammar.{count_in}
 use Rattle.mn_tree.specs.Order.{placed}
 use Rattle.mn_tree.specs.Moves.{comes_in}
-use Rattle.mn_world.specs.declared.entry.Entry.{Entry}
-use Rattle.mn_world.specs.Planned.{IsPlanned}
-use Rattle.mn_world.specs.Growth.{AreNextSlots, taken_on}
+use Rattle.mn_runs.specs.declared.entry.Entry.{Entry}
+use Rattle.mn_law.specs.Planned.{IsPlanned}
+use Rattle.mn_plans.specs.Growth.{AreNextSlots, taken_on}
 use Rattle.mn_txn.specs.declared.attempt.Tried.{Tried}
 use Rattle.mn_txn.specs.declared.attempt.Placing.{Placing}
 use Rattle.mn_txn.specs.declared.error.PlanError.{PlanError}

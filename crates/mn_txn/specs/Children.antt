@@ -14,9 +14,9 @@ use Rattle.mn_page.specs.Grammar.{IsPage, IsEntry, entry_bytes}
 use Rattle.mn_page.specs.Forest.{entry_head}
 use Rattle.mn_page.specs.Copies.{marked_for, copy_for}
 use Rattle.mn_page.specs.Added.{frozen_entry, child_entry}
-use Rattle.mn_world.specs.declared.entry.Entry.{Entry}
-use Rattle.mn_world.specs.Planned.{IsPlanned}
-use Rattle.mn_world.specs.Growth.{AreNextSlots, node_no}
+use Rattle.mn_runs.specs.declared.entry.Entry.{Entry}
+use Rattle.mn_law.specs.Planned.{IsPlanned}
+use Rattle.mn_plans.specs.Growth.{AreNextSlots, node_no}
 use Rattle.mn_txn.specs.declared.image.Image.{Image}
 use Rattle.mn_txn.specs.State.{State, image, ImagesAreApart}
 use Rattle.mn_txn.specs.Order.{in_item_order}

@@ -7,11 +7,12 @@ use Rattle.mn_base.specs.declared.ids.NodeNo.{NodeNo}
 use Rattle.mn_mini.specs.declared.item.Item.{Item}
 use Rattle.mn_mini.specs.declared.item.Item.TheVariants.{Compare, Read, Write}
 use Rattle.mn_page.specs.Space.{count_start}
-use Rattle.mn_world.specs.declared.entry.Entry.{Entry}
-use Rattle.mn_world.specs.Places.{Place, IsNumbered, number_size}
-use Rattle.mn_world.specs.Shown.{ShowsLast}
-use Rattle.mn_world.specs.Planned.{place_rank, compare_places, write_places, are_in_order}
-use Rattle.mn_world.specs.Planned.{IsNextNumber}
+use Rattle.mn_runs.specs.declared.entry.Entry.{Entry}
+use Rattle.mn_runs.specs.Seen.{Place}
+use Rattle.mn_law.specs.Places.{IsNumbered, number_size}
+use Rattle.mn_law.specs.Shown.{ShowsLast}
+use Rattle.mn_law.specs.Planned.{place_rank, compare_places, write_places, are_in_order}
+use Rattle.mn_law.specs.Planned.{IsNextNumber}
 use Rattle.mn_txn.specs.declared.image.Image.{Image}
 use Rattle.mn_txn.specs.State.{State, image, ImagesAreApart}
 use Rattle.mn_txn.specs.Order.{in_item_order}

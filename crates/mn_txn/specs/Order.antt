@@ -2,7 +2,7 @@
 use Rattle.std.specs.Prelude.{Bool, nat_eq, List, [], ◌∷◌, if◌then◌else◌}
 use Rattle.std.specs.declared.cmp.Ordering.{Ordering}
 use Rattle.std.specs.Ordering.{ordering_then, nat_cmp, is_lt}
-use Rattle.mn_world.specs.Planned.{place_rank}
+use Rattle.mn_law.specs.Planned.{place_rank}
 use Rattle.mn_txn.specs.declared.image.Image.{Image}
 use Rattle.mn_txn.specs.declared.image.Turn.{Turn}
 

@@ -8,7 +8,7 @@ use Rattle.mn_mini.specs.declared.item.Item.{Item}
 use Rattle.mn_mini.specs.declared.item.Item.TheVariants.{Compare, Write}
 use Rattle.mn_mini.specs.Mini.{Mini, space_size}
 use Rattle.mn_page.specs.Space.{count_start}
-use Rattle.mn_world.specs.Places.{number_size}
+use Rattle.mn_law.specs.Places.{number_size}
 use Rattle.mn_txn.specs.declared.error.PlanError.{PlanError}
 use Rattle.mn_txn.specs.declared.error.PlanError.TheVariants.{Worn, NoMemory}
 use Rattle.mn_txn.specs.declared.image.Image.{Image}

@@ -17,11 +17,11 @@ use Rattle.mn_page.specs.Grammar.{page_bytes}
 use Rattle.mn_tree.specs.State.{Drafted}
 use Rattle.mn_tree.specs.Moves.{Move, came_at}
 use Rattle.mn_tree.specs.Tries.{ComeTo}
-use Rattle.mn_world.specs.Places.{Place, page_place}
-use Rattle.mn_world.specs.Shown.{Seen}
-use Rattle.mn_world.specs.Needs.{ReadsTree, NeedsSlots, WritesOld}
-use Rattle.mn_world.specs.Answers.{ShowsBytes}
-use Rattle.mn_world.specs.Growth.{AreNextSlots}
+use Rattle.mn_runs.specs.Seen.{Place, Seen}
+use Rattle.mn_law.specs.Places.{page_place}
+use Rattle.mn_law.specs.Needs.{ReadsTree, NeedsSlots, WritesOld}
+use Rattle.mn_law.specs.Answers.{ShowsBytes}
+use Rattle.mn_plans.specs.Growth.{AreNextSlots}
 use Rattle.mn_txn.specs.State.{State, bytes_at, ImagesAreApart}
 use Rattle.mn_txn.specs.Order.{in_item_order}
 use Rattle.mn_txn.specs.Plan.{can_plan, first_worn}

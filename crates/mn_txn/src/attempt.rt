@@ -6,7 +6,7 @@ ghost use Rattle.mn_page.specs.Space.{max_slots};
 ghost use Rattle.mn_tree.specs.Limits.{MovesAreFew, MovesTouchLeaves, PlacedArePut};
 ghost use Rattle.mn_tree.specs.MoveLaws.{MovesRead};
 ghost use Rattle.mn_tree.specs.Tries.{PlacedHaveRoom};
-ghost use Rattle.mn_world.specs.Growth.{taken_on};
+ghost use Rattle.mn_plans.specs.Growth.{taken_on};
 ghost use Rattle.mn_txn.specs.declared.error.PlanError.TheVariants as plan;
 ghost use Rattle.mn_txn.specs.Attempt.{Attempt, page_image};
 ghost use Rattle.mn_txn.specs.AttemptPlan.{DonePlanned, IsDonePlan, IsUnmetPlan, MayBeDone};

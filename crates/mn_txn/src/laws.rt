@@ -49,10 +49,10 @@ pub fn done_is_planned()
     mn_tree::moves_are_placed();
     mn_tree::moves_may_be_quiet();
     mn_tree::reads_are_draft();
-    mn_world::next_slots_are_free();
-    mn_world::writes_leave_store();
-    mn_world::compares_tell();
-    mn_world::numbers_go_on();
+    mn_plans::next_slots_are_free();
+    mn_plans::writes_leave_store();
+    mn_plans::compares_tell();
+    mn_plans::numbers_go_on();
     plans_are_in_order();
 }
 
@@ -65,8 +65,8 @@ pub fn unmet_is_planned()
     mn_tree::moves_read();
     mn_tree::moves_come_once();
     mn_tree::reads_are_draft();
-    mn_world::compares_tell();
-    mn_world::numbers_go_on();
+    mn_plans::compares_tell();
+    mn_plans::numbers_go_on();
     plans_are_in_order();
 }
 
@@ -82,10 +82,10 @@ pub fn snapshot_is_planned()
 {
     mn_page::child_is_shown();
     mn_page::copies_are_pages();
-    mn_world::next_slots_are_free();
-    mn_world::writes_leave_versions();
-    mn_world::compares_tell();
-    mn_world::numbers_go_on();
+    mn_plans::next_slots_are_free();
+    mn_plans::writes_leave_versions();
+    mn_plans::compares_tell();
+    mn_plans::numbers_go_on();
     plans_are_in_order();
 }
 
@@ -96,10 +96,10 @@ pub fn branch_is_planned()
 {
     mn_page::child_is_shown();
     mn_page::copies_are_pages();
-    mn_world::next_slots_are_free();
-    mn_world::writes_leave_versions();
-    mn_world::compares_tell();
-    mn_world::numbers_go_on();
+    mn_plans::next_slots_are_free();
+    mn_plans::writes_leave_versions();
+    mn_plans::compares_tell();
+    mn_plans::numbers_go_on();
     plans_are_in_order();
 }
 

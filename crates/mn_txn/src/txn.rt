@@ -1,6 +1,6 @@
 ghost use Rattle.std.specs.Prelude.{◌≡◌, ◌++◌, [], length, map, None, IfOk, IfErr, OnOk, OnErr};
 ghost use Rattle.std.specs.Prelude.{IsTrue, take};
-ghost use Rattle.mn_world.specs.Places.{number_size};
+ghost use Rattle.mn_law.specs.Places.{number_size};
 ghost use Rattle.std.specs.List.{position_or_len};
 ghost use Rattle.smallvec.specs.SmallVec.{HasRoomFor};
 ghost use Rattle.mn_mini.specs.declared.error.MiniError.TheVariants as mini;

@@ -3,11 +3,12 @@ ghost use Rattle.std.specs.Prelude.{◌≡◌, ◌≤◌, false};
 ghost use Rattle.mn_mini.specs.RecordGrammar.{IsTid};
 
 use mn_base::{Bytes, ClientNo, NodeNo, Nodes, Tid};
+use mn_commits::flat_after;
 use mn_coord::{CoordStep, Coordinator};
 use mn_mini::{
     Item, Items, Minitransaction, NodeReply, Reads, Request, SPACE, SharedBytes, Spaces,
 };
-use mn_world::{Entry, Log, What, flat_after};
+use mn_runs::{Entry, Log, What};
 use std::alloc::Global;
 use std::test::Fail;
 

@@ -13,14 +13,14 @@ use Rattle.mn_page.specs.declared.page.Body.TheVariants.{Inner}
 use Rattle.mn_page.specs.Forest.{heads_in}
 use Rattle.mn_page.specs.Grammar.{SpellsPage, height_of}
 use Rattle.mn_path.specs.Walk.{child_from, front_of, is_on_path}
-use Rattle.mn_world.specs.Shown.{Seen}
-use Rattle.mn_world.specs.Answers.{MeetsFault, ReachesAddr}
+use Rattle.mn_runs.specs.Seen.{Seen}
+use Rattle.mn_law.specs.Answers.{MeetsFault, ReachesAddr}
 use Rattle.mn_txn.specs.declared.seen.SeenPage.{SeenPage}
 use Rattle.mn_work.specs.Among.{AreBrought, WalksAmong}
 use Rattle.mn_work.specs.Bodies.{body_child}
 use Rattle.mn_txn.specs.Seen.{seen_at}
 use Rattle.mn_work.specs.Walks.{IsAbove, height_below}
-use Rattle.mn_world.proofs.Plans.Grown.{addr_is}
+use Rattle.mn_plans.proofs.Grown.{addr_is}
 use Rattle.mn_work.proofs.Bodies.{is_inner}
 use Rattle.mn_work.proofs.Walks.{at_fault, bad_page, goes_below, serves_named}
 

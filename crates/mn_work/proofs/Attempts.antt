@@ -25,8 +25,8 @@ use Rattle.mn_base.specs.declared.reply.Reply.TheVariants.{Frozen, Values, Unmet
 use Rattle.mn_base.proofs.Lists.{all_append}
 use Rattle.mn_mini.specs.declared.item.Item.TheVariants.{Compare}
 use Rattle.mn_mini.specs.Mini.{Mini}
-use Rattle.mn_world.specs.Clients.{is_plan}
-use Rattle.mn_world.specs.Growth.{AreNextSlots}
+use Rattle.mn_runs.specs.Clients.{is_plan}
+use Rattle.mn_plans.specs.Growth.{AreNextSlots}
 use Rattle.mn_page.specs.declared.page.Page.{Page}
 use Rattle.mn_page.specs.declared.entry.CatEntry.{CatEntry}
 use Rattle.mn_page.specs.Forest.{entry_head, heads_in}
@@ -78,8 +78,8 @@ use Rattle.mn_cache.specs.Pages.{page_at}
 use Rattle.mn_page.specs.Grammar.{page_bytes}
 use Rattle.mn_page.specs.Overlay.{held_at}
 use Rattle.mn_tree.specs.MoveLaws.{MovesComeOnce}
-use Rattle.mn_world.specs.Places.{page_place}
-use Rattle.mn_world.proofs.Plans.Told.{all_there}
+use Rattle.mn_law.specs.Places.{page_place}
+use Rattle.mn_plans.proofs.Told.{all_there}
 use Rattle.mn_work.specs.Walks.{Admits}
 
 -- Lists

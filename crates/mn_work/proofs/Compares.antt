@@ -16,11 +16,11 @@ use Rattle.mn_page.specs.Grammar.{entry_bytes}
 use Rattle.mn_page.specs.Overlay.{Held, held_at}
 use Rattle.mn_page.specs.Space.{entry_start}
 use Rattle.mn_tree.specs.Moves.{Move, came_at, comes_in}
-use Rattle.mn_world.specs.Clients.{is_plan}
-use Rattle.mn_world.specs.Growth.{giving_nodes, node_no, taken_on}
-use Rattle.mn_world.specs.Places.{number_size}
-use Rattle.mn_world.proofs.Plans.Grown.{addr_is}
-use Rattle.mn_world.proofs.Plans.Told.{all_there}
+use Rattle.mn_runs.specs.Clients.{is_plan}
+use Rattle.mn_plans.specs.Growth.{giving_nodes, node_no, taken_on}
+use Rattle.mn_law.specs.Places.{number_size}
+use Rattle.mn_plans.proofs.Grown.{addr_is}
+use Rattle.mn_plans.proofs.Told.{all_there}
 use Rattle.mn_txn.specs.declared.image.Image.{Image}
 use Rattle.mn_txn.specs.declared.seen.SeenPage.{SeenPage}
 use Rattle.mn_txn.specs.State.{image}

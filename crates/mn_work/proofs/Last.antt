@@ -20,12 +20,13 @@ use Rattle.mn_page.specs.Space.{entry_size, entry_start, slot_start}
 use Rattle.mn_page.proofs.Spelled.{entry_length, page_length}
 use Rattle.mn_tree.specs.Moves.{Comes, Does, LeadsTo, Move, came_at, comes_in, leaves_at}
 use Rattle.mn_tree.specs.State.{Drafted}
-use Rattle.mn_world.specs.declared.entry.Entry.{Entry}
-use Rattle.mn_world.specs.Growth.{giving_nodes, node_no}
-use Rattle.mn_world.specs.Places.{IsNumbered, Place, catalog_node, entry_place, number_size}
-use Rattle.mn_world.specs.Shown.{ShowsLast}
-use Rattle.mn_world.proofs.Plans.Grown.{addr_is}
-use Rattle.mn_world.proofs.Plans.Told.{all_there}
+use Rattle.mn_runs.specs.declared.entry.Entry.{Entry}
+use Rattle.mn_plans.specs.Growth.{giving_nodes, node_no}
+use Rattle.mn_law.specs.Places.{IsNumbered, catalog_node, entry_place, number_size}
+use Rattle.mn_runs.specs.Seen.{Place}
+use Rattle.mn_law.specs.Shown.{ShowsLast}
+use Rattle.mn_plans.proofs.Grown.{addr_is}
+use Rattle.mn_plans.proofs.Told.{all_there}
 use Rattle.mn_txn.specs.declared.image.Image.{Image}
 use Rattle.mn_txn.specs.declared.seen.SeenPage.{SeenPage}
 use Rattle.mn_txn.specs.State.{image}

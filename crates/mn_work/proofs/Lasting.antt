@@ -18,18 +18,18 @@ use Rattle.mn_page.specs.Grammar.{SpellsPage, entry_bytes, height_of, padded, pa
 use Rattle.mn_page.specs.Space.{entry_size}
 use Rattle.mn_page.proofs.Spelled.{length-padded}
 use Rattle.mn_txn.specs.declared.seen.SeenPage.{SeenPage}
-use Rattle.mn_world.specs.declared.entry.Entry.{Entry}
-use Rattle.mn_world.specs.Places.{Place, catalog_node, catalog_place, entry_place, page_place}
-use Rattle.mn_world.specs.Shown.{FirstGives, Seen, GivesPlace, SeesCatalog, shown_in}
+use Rattle.mn_runs.specs.declared.entry.Entry.{Entry}
+use Rattle.mn_runs.specs.Seen.{Place, Seen}
+use Rattle.mn_law.specs.Places.{catalog_node, catalog_place, entry_place, page_place}
+use Rattle.mn_law.specs.Shown.{FirstGives, GivesPlace, SeesCatalog, shown_in}
 use Rattle.mn_work.specs.Cached.{ArePut, Puts, Replaces}
 use Rattle.mn_work.specs.Last.{AreReadAs, CacheIsLast, CatalogIsLast, IsLast, PageIsLast, PagesAreLast, bytes_at}
 use Rattle.std.specs.Prelude.{if◌then◌else◌, nat_eq}
 use Rattle.std.specs.Map.{lookup}
 use Rattle.mn_base.proofs.Booleans.{clash}
-use Rattle.mn_world.proofs.Plans.Grown.{addr_is}
-use Rattle.mn_world.proofs.Plans.Pieces.{length-pieces}
-use Rattle.mn_world.proofs.Plans.Spaces.{entry_sizes}
-use Rattle.mn_world.proofs.Reading.Shows.{entry_given}
+use Rattle.mn_plans.proofs.Grown.{addr_is}
+use Rattle.mn_law.proofs.Pieces.{length-pieces, entry_sizes}
+use Rattle.mn_law.proofs.Shows.{entry_given}
 use Rattle.mn_tree.proofs.Trees.Puts.{same_itself}
 use Rattle.mn_work.proofs.Last.{without_last}
 

@@ -16,7 +16,7 @@ use Rattle.mn_page.specs.declared.entry.CatEntry.{CatEntry}
 use Rattle.mn_page.specs.declared.page.Page.{Page}
 use Rattle.mn_page.specs.Forest.{entry_head, heads_in}
 use Rattle.mn_page.specs.Grammar.{IsEntry}
-use Rattle.mn_world.specs.declared.entry.Entry.{Entry}
+use Rattle.mn_runs.specs.declared.entry.Entry.{Entry}
 use Rattle.mn_txn.specs.Laws.{ReadsAreShown}
 use Rattle.mn_txn.specs.Children.{child_reads}
 use Rattle.mn_txn.specs.ChildPlan.{BranchPlanned, IsVersion, MayHaveChild, SnapshotPlanned, child_try}

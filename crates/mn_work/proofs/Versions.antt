@@ -7,7 +7,7 @@ use Rattle.mn_base.specs.declared.ids.VersionNo.{VersionNo}
 use Rattle.mn_page.specs.declared.entry.CatEntry.{CatEntry}
 use Rattle.mn_page.specs.Forest.{heads_in, parent_number}
 use Rattle.mn_vtree.specs.Parents.{AreLess, IsFirstBad, numbers_of}
-use Rattle.mn_world.specs.Answers.{ParentsAreBelow}
+use Rattle.mn_law.specs.Answers.{ParentsAreBelow}
 
 same_number : (parent : Option VersionNo) → option_map (λ v. v.0) parent ≡ parent_number parent
 same_number None = refl

@@ -19,9 +19,10 @@ use Rattle.mn_page.specs.Grammar.{SpellsPage, height_of}
 use Rattle.mn_page.specs.Forest.{ChildRange, body_children, children_of, heads_in, ranges_from}
 use Rattle.mn_page.specs.Holds.{page_covers, page_serves}
 use Rattle.mn_path.specs.Walk.{child_from, front_of, is_live, is_on_path, may_stand, max_height}
-use Rattle.mn_world.specs.Shown.{Seen, ServesNamed}
-use Rattle.mn_world.specs.Answers.{Reached, ReachesAddr, is_wrong_height, IsPageAtFault, MeetsFault}
-use Rattle.mn_world.specs.Answers.Reached.{by_child}
+use Rattle.mn_runs.specs.Seen.{Seen}
+use Rattle.mn_law.specs.Shown.{ServesNamed}
+use Rattle.mn_law.specs.Answers.{Reached, ReachesAddr, is_wrong_height, IsPageAtFault, MeetsFault}
+use Rattle.mn_law.specs.Answers.Reached.{by_child}
 use Rattle.mn_work.specs.Seen.{SpellsNone}
 use Rattle.mn_work.specs.Walks.{IsAbove, height_below, seen_page}
 

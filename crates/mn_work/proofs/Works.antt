@@ -46,7 +46,7 @@ use Rattle.mn_work.specs.declared.work.Started.{Started}
 use Rattle.mn_work.specs.declared.work.Work.{Work}
 use Rattle.mn_work.specs.Works.{BeginsSteps, HasBegun, IsReadAs, IsReadIfOn, IsScan, JobIsLast, StaysLast}
 use Rattle.mn_work.specs.Last.{PagesAreLast, RootIsLast}
-use Rattle.mn_world.specs.declared.entry.Entry.{Entry}
+use Rattle.mn_runs.specs.declared.entry.Entry.{Entry}
 use Rattle.mn_base.specs.declared.error.NoMemory.{NoMemory}
 use Rattle.mn_work.specs.Attempts as attempts
 use Rattle.mn_work.specs.Catalogs.{root_named}

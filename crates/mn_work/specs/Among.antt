@@ -8,8 +8,8 @@ use Rattle.mn_base.specs.declared.op.Op.{Op}
 use Rattle.mn_base.specs.declared.answer.Busy.{Busy}
 use Rattle.mn_page.specs.declared.entry.CatEntry.{CatEntry}
 use Rattle.mn_page.specs.Forest.{heads_in}
-use Rattle.mn_world.specs.Shown.{Seen}
-use Rattle.mn_world.specs.Answers.{MeetsFault, ReachesAddr}
+use Rattle.mn_runs.specs.Seen.{Seen}
+use Rattle.mn_law.specs.Answers.{MeetsFault, ReachesAddr}
 use Rattle.mn_txn.specs.declared.seen.SeenPage.{SeenPage}
 use Rattle.mn_work.specs.declared.causes.Met.{Met}
 use Rattle.mn_work.specs.declared.causes.Met.TheVariants as met

@@ -32,10 +32,10 @@ use Rattle.mn_tree.specs.MoveLaws.{IsStep}
 use Rattle.mn_tree.specs.Moves.{Move}
 use Rattle.mn_tree.specs.Tries.{ComeTo, EndsUnmet}
 use Rattle.mn_tree.specs.declared.stepped.Stepped.TheVariants as steps
-use Rattle.mn_world.specs.declared.entry.Entry.{Entry}
-use Rattle.mn_world.specs.Clients.{is_plan}
-use Rattle.mn_world.specs.Places.{catalog_node, number_size}
-use Rattle.mn_world.specs.Planned.{IsPlanned}
+use Rattle.mn_runs.specs.declared.entry.Entry.{Entry}
+use Rattle.mn_runs.specs.Clients.{is_plan}
+use Rattle.mn_law.specs.Places.{catalog_node, number_size}
+use Rattle.mn_law.specs.Planned.{IsPlanned}
 use Rattle.mn_txn.specs.Attempt.{Attempt as Tried}
 use Rattle.mn_txn.specs.Tries.{IsWornPage}
 use Rattle.mn_txn.specs.declared.attempt.Tried.{Tried as Told}

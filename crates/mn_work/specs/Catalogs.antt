@@ -12,7 +12,7 @@ use Rattle.mn_page.specs.Forest.{heads_in}
 use Rattle.mn_catalog.specs.Grammar.{SpellsCatalog}
 use Rattle.mn_vtree.specs.declared.error.TreeError.{TreeError}
 use Rattle.mn_vtree.specs.declared.error.TreeError.TheVariants.{BadParent, NoMemory}
-use Rattle.mn_world.specs.Answers.{ParentsAreBelow}
+use Rattle.mn_law.specs.Answers.{ParentsAreBelow}
 
 -- each version's parent, if it has one, has a lower number
 abbrev pub HasParentsBelow : List CatEntry → Type 0

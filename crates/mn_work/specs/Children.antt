@@ -26,8 +26,8 @@ use Rattle.mn_txn.specs.ChildPlan.{RefusesSnapshot}
 use Rattle.mn_txn.specs.declared.error.PlanError.{PlanError}
 use Rattle.mn_txn.specs.declared.error.PlanError.TheVariants.{Worn, NoMemory}
 use Rattle.mn_mini.specs.Mini.{Mini}
-use Rattle.mn_world.specs.declared.entry.Entry.{Entry}
-use Rattle.mn_world.specs.Planned.{IsPlanned}
+use Rattle.mn_runs.specs.declared.entry.Entry.{Entry}
+use Rattle.mn_law.specs.Planned.{IsPlanned}
 use Rattle.mn_work.specs.declared.child.Child.{Child}
 use Rattle.mn_work.specs.declared.known.Known.{Known}
 use Rattle.mn_work.specs.declared.next.Next.{Next}

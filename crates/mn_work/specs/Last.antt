@@ -11,9 +11,10 @@ use Rattle.mn_page.specs.declared.entry.CatEntry.{CatEntry}
 use Rattle.mn_page.specs.Grammar.{entry_bytes, page_bytes}
 use Rattle.mn_page.specs.Space.{entry_size}
 use Rattle.mn_txn.specs.declared.seen.SeenPage.{SeenPage}
-use Rattle.mn_world.specs.declared.entry.Entry.{Entry}
-use Rattle.mn_world.specs.Places.{Place, catalog_node, entry_place, number_size, page_place}
-use Rattle.mn_world.specs.Shown.{ShowsLast}
+use Rattle.mn_runs.specs.declared.entry.Entry.{Entry}
+use Rattle.mn_runs.specs.Seen.{Place}
+use Rattle.mn_law.specs.Places.{catalog_node, entry_place, number_size, page_place}
+use Rattle.mn_law.specs.Shown.{ShowsLast}
 
 -- of the bytes of the place that begin as these do, the list has shown these last
 abbrev pub IsLast : List Entry → Place → List ℕ → Type 0

@@ -1,5 +1,5 @@
 -- Ranges of bytes, as the runs name them.
-use Rattle.mn_world.specs.Places.{Place}
+use Rattle.mn_runs.specs.Seen.{Place}
 use Rattle.mn_work.specs.declared.place.Place.{Place as Range}
 
 abbrev pub place_of : Range → Place

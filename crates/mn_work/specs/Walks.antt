@@ -11,9 +11,9 @@ use Rattle.mn_base.specs.declared.op.Op.{Op}
 use Rattle.mn_base.specs.declared.answer.Busy.{Busy}
 use Rattle.mn_page.specs.declared.entry.CatEntry.{CatEntry}
 use Rattle.mn_page.specs.Forest.{heads_in}
-use Rattle.mn_world.specs.Places.{page_place}
-use Rattle.mn_world.specs.Shown.{Seen}
-use Rattle.mn_world.specs.Answers.{MeetsFault, ReachesAddr}
+use Rattle.mn_law.specs.Places.{page_place}
+use Rattle.mn_runs.specs.Seen.{Seen}
+use Rattle.mn_law.specs.Answers.{MeetsFault, ReachesAddr}
 
 -- asked of a later try alone, of which so many failed before
 abbrev pub IfLater : ℕ → Type 0 → Type 0

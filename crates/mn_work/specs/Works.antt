@@ -19,7 +19,7 @@ use Rattle.mn_page.specs.Forest.{heads_in}
 use Rattle.mn_page.specs.declared.page.Page.{Page}
 use Rattle.mn_scan.specs.Scan.{IsNeeded, ScanState, new_scan, restarted}
 use Rattle.mn_tree.specs.MoveLaws.{IsStep}
-use Rattle.mn_world.specs.declared.entry.Entry.{Entry}
+use Rattle.mn_runs.specs.declared.entry.Entry.{Entry}
 use Rattle.mn_work.specs.declared.attempt.Attempt.{Attempt}
 use Rattle.mn_work.specs.declared.child.Child.{Child}
 use Rattle.mn_work.specs.declared.get.Descent.{Descent}

@@ -1,6 +1,6 @@
 ghost use Rattle.std.specs.Prelude.{◌≡◌};
 ghost use Rattle.mn_page.specs.Space as space;
-ghost use Rattle.mn_world.specs.Places.{catalog_place, count_place, page_place};
+ghost use Rattle.mn_law.specs.Places.{catalog_place, count_place, page_place};
 
 use mn_base::{Addr, NodeNo};
 

@@ -11,9 +11,10 @@ ghost use Rattle.mn_io.specs.DiskModel.{LeavesOnly};
 ghost use Rattle.mn_node.specs.Node.{IsWithOrWithout};
 ghost use Rattle.mn_node.specs.Restart.{FailsRestart};
 ghost use Rattle.mn_node.specs.State.{response_to};
-ghost use Rattle.mn_world.specs.declared.entry.What.TheVariants.{Stopped, Restarted};
-ghost use Rattle.mn_world.specs.declared.entry.Entry.{Entry};
-ghost use Rattle.mn_world.specs.Run.{IsLegalBy, entries_of};
+ghost use Rattle.mn_runs.specs.declared.entry.What.TheVariants.{Stopped, Restarted};
+ghost use Rattle.mn_runs.specs.declared.entry.Entry.{Entry};
+ghost use Rattle.mn_law.specs.Run.{IsLegalBy};
+ghost use Rattle.mn_runs.specs.Protocol.{entries_of};
 ghost use Rattle.mn_cell.specs.Calls.{EndsBoth, HasLengths, IsLarge, IsLegalLine, IsUndamaged};
 ghost use Rattle.mn_cell.specs.Calls.{ObeysStop, MaySend, entry_at, lengths_by, what_said};
 ghost use Rattle.mn_cell.specs.Passes.{AreOfOneLog, IsSameView, OwnsJust};
@@ -29,9 +30,10 @@ use crate::owing::{Owing, decided_id};
 use mn_actors::{Board, Pass};
 use mn_base::{ClientNo, NoMemory, NodeNo, StopAt, Tid};
 use mn_io::Disk;
+use mn_law::CoreLaw;
 use mn_mini::{NodeReply, Request};
 use mn_node::RestartError;
-use mn_world::{ClientList, CoreLaw, Entry, What};
+use mn_runs::{ClientList, Entry, What};
 use std::alloc::Global;
 
 /// Makes room in the caller's list for a step of it, which may decide an id, and for the decision

@@ -1,6 +1,6 @@
 //! How a try fails, and what follows: a later one, or the answer.
 ghost use Rattle.std.specs.Prelude.{◌≡◌, ◌<◌, ◌+◌, List, IfOk, OnErr, None, Some};
-ghost use Rattle.mn_world.specs.declared.entry.Entry.{Entry};
+ghost use Rattle.mn_runs.specs.declared.entry.Entry.{Entry};
 ghost use Rattle.mn_proxy.specs.Agrees.{IsOwnLast};
 ghost use Rattle.mn_proxy.specs.Kept.{CatalogTurns};
 ghost use Rattle.mn_proxy.specs.Measure.{GoesBelow, left_after};

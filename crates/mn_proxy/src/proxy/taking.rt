@@ -2,8 +2,8 @@
 ghost use Rattle.std.specs.Prelude.{◌≡◌, ◌<◌, ◌+◌, List, IfOk, OnErr, None, Some, false};
 ghost use Rattle.std.specs.Prelude.{option_map};
 ghost use Rattle.mn_coord.specs.Coordination.{step_of};
-ghost use Rattle.mn_world.specs.declared.entry.Entry.{Entry};
-ghost use Rattle.mn_world.specs.Calls.{since_begin};
+ghost use Rattle.mn_runs.specs.declared.entry.Entry.{Entry};
+ghost use Rattle.mn_runs.specs.Calls.{since_begin};
 ghost use Rattle.mn_proxy.specs.declared.errand.Errand.TheVariants as errands;
 ghost use Rattle.mn_proxy.specs.Agrees.{AreOverNodes, ErrandAgrees, HasRead, IsOwn};
 ghost use Rattle.mn_proxy.specs.Agrees.{IsOwnLast, MayWant, MiniAgrees};

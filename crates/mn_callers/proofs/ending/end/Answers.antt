@@ -5,9 +5,9 @@ use Rattle.mn_actors.specs.Lists.{held}
 use Rattle.mn_actors.specs.Sight.{clients_of, nodes_of, view_of}
 use Rattle.mn_base.specs.declared.ids.ClientNo.{ClientNo}
 use Rattle.mn_cell.specs.Station.{StationState}
-use Rattle.mn_world.specs.declared.entry.Entry.{Entry}
-use Rattle.mn_world.specs.Lists.{ClientState}
-use Rattle.mn_world.specs.Protocol.{start_of}
+use Rattle.mn_runs.specs.declared.entry.Entry.{Entry}
+use Rattle.mn_runs.specs.Lists.{ClientState}
+use Rattle.mn_runs.specs.Protocol.{start_of}
 use Rattle.mn_callers.specs.Ended.{AreLists}
 use Rattle.mn_callers.specs.Plays.{list_by}
 use Rattle.mn_callers.specs.Trace.{HaveSoundRecords}

@@ -3,8 +3,8 @@ use Rattle.mn_actors.specs.Sight.{view_of}
 use Rattle.mn_cell.specs.Station.{StationState}
 use Rattle.mn_cell.proofs.Filled.{none_left}
 use Rattle.mn_node.specs.State.{NodeState}
-use Rattle.mn_world.specs.declared.entry.Entry.{Entry}
-use Rattle.mn_world.specs.Protocol.{start_of}
+use Rattle.mn_runs.specs.declared.entry.Entry.{Entry}
+use Rattle.mn_runs.specs.Protocol.{start_of}
 use Rattle.mn_callers.specs.Ended.{HoldsNodes}
 use Rattle.mn_callers.proofs.Apart.{IsTaking, callers_then, holds_more, same_callers, taken_at, taken_ends, takes, taking_begins}
 use Rattle.mn_callers.proofs.ending.take_apart.Goals as goal

@@ -1,7 +1,7 @@
 use Rattle.std.proofs.Common.{◌≡◌, ℕ, List, vec_capacity, vec_len}
 use Rattle.mn_actors.specs.Sight.{board_of, view_of}
-use Rattle.mn_world.specs.declared.entry.Entry.{Entry}
-use Rattle.mn_world.specs.Protocol.{start_of}
+use Rattle.mn_runs.specs.declared.entry.Entry.{Entry}
+use Rattle.mn_runs.specs.Protocol.{start_of}
 use Rattle.mn_callers.specs.Ended.{HoldsNodes, SameCallers}
 use Rattle.mn_callers.proofs.Apart.{IsTaking}
 use Rattle.mn_callers.proofs.ending.take_apart.Given as goal

@@ -1,5 +1,5 @@
 use Rattle.std.proofs.Common.{ℕ, ◌-◌, List, [], ◌++◌, map, replicate, ap, ◌∙◌}
-use Rattle.mn_world.specs.Lists.{ClientState}
+use Rattle.mn_runs.specs.Lists.{ClientState}
 use Rattle.mn_callers.specs.declared.client.Client.{Client}
 use Rattle.mn_callers.proofs.Listing.{are_lists}
 use Rattle.mn_callers.proofs.ending.take_lists.Goals as goal

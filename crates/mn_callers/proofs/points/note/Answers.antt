@@ -1,5 +1,5 @@
 use Rattle.std.proofs.Common.{refl, ◌∙◌}
-use Rattle.mn_world.specs.Run.{entries_of}
+use Rattle.mn_runs.specs.Protocol.{entries_of}
 use Rattle.mn_hist.specs.declared.points.Step.{Step}
 use Rattle.mn_callers.proofs.MetPoints.{step_meets}
 use Rattle.mn_callers.proofs.points.note.Goals as goal

@@ -1,6 +1,6 @@
 use Rattle.std.proofs.Common.{◌≡◌, ◌≤◌, take}
 use Rattle.mn_hist.specs.Points.{votes_for}
-use Rattle.mn_world.specs.Run.{entries_of}
+use Rattle.mn_runs.specs.Protocol.{entries_of}
 use Rattle.mn_callers.proofs.points.votes_for.Given as goal
 
 -- the votes so far are counted

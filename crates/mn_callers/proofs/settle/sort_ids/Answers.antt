@@ -5,7 +5,7 @@ use Rattle.std.proofs.lemmas.List.Kept.{Contains-dedup, Contains-from_dedup, IsS
 use Rattle.std.proofs.lemmas.List.Sorted.{Contains-permutation, IsPermutation-sym}
 use Rattle.mn_base.specs.Ids.{tid_same}
 use Rattle.mn_base.specs.declared.ids.Tid.{Tid}
-use Rattle.mn_world.proofs.Reading.Same.{tid_same-refl, tid_same-true}
+use Rattle.mn_runs.proofs.Same.{tid_same-refl, tid_same-true}
 use Rattle.mn_callers.proofs.Ordered.{ids_tie, ids_total, in_order}
 use Rattle.mn_callers.proofs.settle.sort_ids.Goals as goal
 

@@ -1,8 +1,7 @@
 use Rattle.std.proofs.Common.{◌≡◌, ◌+◌, ℕ, List, Some, vec_len, length, ap, sym, subst, ◌∙◌, arith, refl}
 use Rattle.mn_actors.specs.Sight.{view_of}
-use Rattle.mn_world.specs.declared.entry.Entry.{Entry}
-use Rattle.mn_world.specs.Protocol.{start_of}
-use Rattle.mn_world.specs.Run.{entries_of}
+use Rattle.mn_runs.specs.declared.entry.Entry.{Entry}
+use Rattle.mn_runs.specs.Protocol.{start_of, entries_of}
 use Rattle.mn_cell.specs.Promises.{IsOwing}
 use Rattle.mn_cell.specs.Station.{HasMadeEntries, list_by}
 use Rattle.std.proofs.lemmas.List.{append-nil}

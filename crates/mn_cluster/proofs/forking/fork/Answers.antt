@@ -1,6 +1,6 @@
 use Rattle.std.proofs.Common.{◌≡◌, ◌<◌, List, length, get_or, drop, sym, ap, ◌∙◌, subst, arith}
 use Rattle.std.proofs.lemmas.Option.{slice_get_within}
-use Rattle.mn_world.specs.Protocol.{start_of}
+use Rattle.mn_runs.specs.Protocol.{start_of}
 use Rattle.mn_cluster.specs.declared.worker.Worker.{Worker}
 use Rattle.mn_cluster.specs.Workers.{HasWorked}
 use Rattle.mn_cluster.proofs.Fronts.{read_front, read_there}

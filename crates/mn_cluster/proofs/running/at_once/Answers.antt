@@ -3,7 +3,7 @@ use Rattle.std.specs.List.{AllByRecursion}
 use Rattle.std.proofs.lemmas.List.Elements.{All-from_recursion}
 use Rattle.atomic_table.specs.Seated.{TableId}
 use Rattle.mn_actors.specs.Sight.{view_of}
-use Rattle.mn_world.specs.Protocol.{start_of}
+use Rattle.mn_runs.specs.Protocol.{start_of}
 use Rattle.mn_callers.proofs.Turns.{ok_then}
 use Rattle.mn_callers.specs.Plays.{AreReady, state_at}
 use Rattle.mn_callers.specs.Stages.{GoesAs, state_of}

@@ -1,5 +1,5 @@
 use Rattle.std.specs.List.{range_with_len}
-use Rattle.mn_world.specs.Protocol.{start_of}
+use Rattle.mn_runs.specs.Protocol.{start_of}
 use Rattle.mn_callers.specs.Plays.{AreReady, IsPlay}
 use Rattle.mn_callers.specs.Stages.{GoesAs, state_of}
 use Rattle.mn_cluster.specs.Follows.{TakeTurns}

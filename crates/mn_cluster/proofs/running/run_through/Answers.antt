@@ -2,8 +2,8 @@ use Rattle.std.proofs.Common.{◌≡◌, Err, List, ap, inl, inr, sym, ◌∙◌
 use Rattle.std.proofs.lemmas.Result.{err_from_is_err_and}
 use Rattle.mn_cell.specs.declared.trace.RunCause.{RunCause}
 use Rattle.mn_script.specs.declared.elements.Mark.TheVariants.{Last}
-use Rattle.mn_world.specs.declared.entry.Entry.{Entry}
-use Rattle.mn_world.specs.Protocol.{start_of}
+use Rattle.mn_runs.specs.declared.entry.Entry.{Entry}
+use Rattle.mn_runs.specs.Protocol.{start_of}
 use Rattle.mn_callers.proofs.Closing.{if_error}
 use Rattle.mn_callers.proofs.Opened.{fresh_bare}
 use Rattle.mn_callers.proofs.Turns.{ok_then}

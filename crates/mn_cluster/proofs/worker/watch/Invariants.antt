@@ -1,4 +1,4 @@
-use Rattle.mn_world.specs.Run.{entries_of}
+use Rattle.mn_runs.specs.Protocol.{entries_of}
 use Rattle.mn_callers.specs.Desks.{IsDesk, RecoversOn}
 use Rattle.mn_callers.specs.Hands.{HasTurn, MovesOn, hand_of}
 use Rattle.mn_cluster.proofs.worker.watch.Given as goal

@@ -5,8 +5,9 @@ use Rattle.mn_base.specs.declared.ids.NodeNo.{NodeNo}
 use Rattle.mn_base.proofs.Naturals.{below_or}
 use Rattle.mn_mini.specs.declared.record.Record.{Record}
 use Rattle.mn_mini.specs.Node.{held_parts, space_of, with_held}
-use Rattle.mn_world.specs.Opened.{AreSound, HeldAreGreater, is_committed}
-use Rattle.mn_world.specs.Protocol.{start_of, base_at}
+use Rattle.mn_runs.specs.Sound.{AreSound, is_committed}
+use Rattle.mn_law.specs.Opened.{HeldAreGreater}
+use Rattle.mn_runs.specs.Protocol.{start_of, base_at}
 use Rattle.mn_flat.proofs.Voting.{greater_of}
 use Rattle.mn_flat.specs.declared.error.VoteError.{VoteError}
 use Rattle.mn_page.specs.Base.{base_of}

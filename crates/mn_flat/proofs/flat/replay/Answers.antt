@@ -5,7 +5,7 @@ use Rattle.mn_base.specs.declared.ids.Tid.{Tid}
 use Rattle.mn_mini.specs.declared.record.Record.{Record}
 use Rattle.mn_mini.specs.Node.{HeldPart, held_parts, space_of, with_held}
 use Rattle.mn_mini.proofs.Fits.{length-space_of}
-use Rattle.mn_world.specs.Opened.{is_committed}
+use Rattle.mn_runs.specs.Sound.{is_committed}
 use Rattle.mn_flat.specs.declared.held.Held.{Held}
 use Rattle.mn_flat.specs.Known.{parts_seen, says_committed}
 use Rattle.mn_flat.specs.Told.{IsEnd, RefusesIn}

@@ -1,6 +1,6 @@
 use Rattle.std.proofs.Common.{◌&&◌, nat_eq, ◌∙◌}
 use Rattle.mn_base.specs.Ids.{client_same}
-use Rattle.mn_world.proofs.Computed.Order.{cond_or}
+use Rattle.mn_commits.proofs.Computed.Order.{cond_or}
 use Rattle.mn_hist.specs.History.{stands}
 use Rattle.mn_hist.proofs.Putting.{on_ok}
 use Rattle.mn_hist.proofs.acts.note_standing.Goals as goal

@@ -2,8 +2,8 @@ use Rattle.std.proofs.Common.{ℕ, List, map, ap, sym, ◌∙◌}
 use Rattle.mn_base.specs.declared.ids.ClientNo.{ClientNo}
 use Rattle.mn_script.specs.declared.elements.Point.{Point}
 use Rattle.mn_script.specs.declared.elements.ScriptClient.{ScriptClient}
-use Rattle.mn_world.specs.History.{has_past, pasts_of}
-use Rattle.mn_world.specs.Run.{entries_of}
+use Rattle.mn_serial.specs.History.{has_past, pasts_of}
+use Rattle.mn_runs.specs.Protocol.{entries_of}
 use Rattle.mn_hist.specs.Audit.{answers_from, doubts_from, ranked_act, ranked_as, said_by, versions_told}
 use Rattle.mn_hist.specs.History.{acts_in, stands}
 use Rattle.mn_hist.specs.Points.{points_met}

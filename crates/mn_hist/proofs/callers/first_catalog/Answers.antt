@@ -1,7 +1,7 @@
 use Rattle.std.proofs.Common.{◌≡◌, ◌+◌, ◌∷◌, [], true, false, ap, sym, subst, ◌∙◌, take, drop, reverse}
 use Rattle.std.specs.List.{AllByRecursion}
 use Rattle.mn_node.proofs.Built.{all-reverse}
-use Rattle.mn_world.specs.Shown.{Seen, seen_at}
+use Rattle.mn_runs.specs.Seen.{Seen, seen_at}
 use Rattle.mn_hist.specs.History.{Noting, TellsCatalogRead, notes_in}
 use Rattle.mn_hist.specs.Shown.{is_of_catalog}
 use Rattle.mn_hist.proofs.Loops.{all_take}

@@ -1,7 +1,7 @@
 use Rattle.std.proofs.Common.{◌≡◌, ℕ, ◌+◌, ◌-◌, ◌<◌, true, ap, subst, arith, take, drop, reverse}
 use Rattle.std.specs.List.{AllByRecursion}
 use Rattle.mn_node.proofs.Built.{all-reverse}
-use Rattle.mn_world.specs.Shown.{Seen}
+use Rattle.mn_runs.specs.Seen.{Seen}
 use Rattle.mn_hist.specs.History.{Noting, TellsNoteShows, notes_in}
 use Rattle.mn_hist.specs.Shown.{IsUnshown}
 use Rattle.mn_hist.proofs.Loops.{all_drop, drop_whole}

@@ -1,5 +1,5 @@
 use Rattle.std.proofs.Common.{◌≡◌, ◌<◌, ◌∷◌, ℕ, length, slice_index_or, slice_set, ap, subst, sym, ◌∙◌, arith}
-use Rattle.mn_world.specs.Shown.{seen_at}
+use Rattle.mn_runs.specs.Seen.{seen_at}
 use Rattle.mn_hist.specs.History.{CallerState, AreCallerStates, state_after, caller_state}
 use Rattle.mn_hist.proofs.Joining.{of_client}
 use Rattle.mn_hist.proofs.Putting.{at_index, on_ok}

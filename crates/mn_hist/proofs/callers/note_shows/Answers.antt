@@ -1,7 +1,7 @@
 use Rattle.std.proofs.Common.{ap, subst, sym, ◌∙◌}
 use Rattle.std.specs.List.{AllByRecursion}
 use Rattle.std.specs.Option.{option_map}
-use Rattle.mn_world.specs.Shown.{Seen}
+use Rattle.mn_runs.specs.Seen.{Seen}
 use Rattle.mn_hist.specs.History.{Noting, TellsNoteShows}
 use Rattle.mn_hist.specs.Shown.{IsUnshown, as_seen}
 use Rattle.mn_hist.proofs.Joining.{on_found}

@@ -1,7 +1,7 @@
 use Rattle.std.proofs.Common.{◌≡◌, ap, ◌∙◌}
 use Rattle.mn_base.specs.History.{store_after}
 use Rattle.mn_base.specs.Store.{Store}
-use Rattle.mn_world.specs.History.{pasts_of}
+use Rattle.mn_serial.specs.History.{pasts_of}
 use Rattle.mn_hist.specs.Acts.{done_from}
 use Rattle.mn_hist.specs.History.{acts_in}
 use Rattle.mn_hist.proofs.history.ending_of.Goals as goal

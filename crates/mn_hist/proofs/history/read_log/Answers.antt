@@ -1,11 +1,11 @@
 use Rattle.std.proofs.Common.{◌≡◌, ℕ, suc, ◌+◌, ◌∙◌, List, [], ◌∷◌, length, take, ap, refl, subst, sym, arith}
-use Rattle.mn_world.specs.declared.entry.Entry.{Entry}
-use Rattle.mn_world.specs.History.{Placed}
-use Rattle.mn_world.specs.Meaning.{OpenedRun}
-use Rattle.mn_world.specs.Run.{entries_of}
+use Rattle.mn_runs.specs.declared.entry.Entry.{Entry}
+use Rattle.mn_serial.specs.History.{Placed}
+use Rattle.mn_serial.specs.Meaning.{OpenedRun}
+use Rattle.mn_runs.specs.Protocol.{entries_of}
 use Rattle.mn_hist.specs.Told.{ReaderHasRead, ReaderHasTold}
 use Rattle.mn_hist.proofs.Joining.{has_place, take_whole}
-use Rattle.mn_world.proofs.Logs.{newest}
+use Rattle.mn_runs.proofs.Logs.{newest}
 use Rattle.mn_hist.proofs.history.read_log.Goals as goal
 
 plus_one : (n : ℕ) → suc n ≡ n + 1

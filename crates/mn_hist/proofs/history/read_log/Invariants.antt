@@ -1,10 +1,9 @@
 use Rattle.std.proofs.Common.{◌≡◌, List, length, take}
 use Rattle.mn_base.specs.Store.{Store}
-use Rattle.mn_world.specs.History.{Placed}
-use Rattle.mn_world.specs.Protocol.{Start}
-use Rattle.mn_world.specs.Meaning.{HistoryIsOne, OpenedRun}
-use Rattle.mn_world.specs.OneHistory.{RunsAreOneHistory, RunsHaveHistory}
-use Rattle.mn_world.specs.Run.{entries_of}
+use Rattle.mn_serial.specs.History.{Placed}
+use Rattle.mn_runs.specs.Protocol.{Start, entries_of}
+use Rattle.mn_serial.specs.Meaning.{HistoryIsOne, OpenedRun}
+use Rattle.mn_serial.specs.OneHistory.{RunsAreOneHistory, RunsHaveHistory}
 use Rattle.mn_hist.specs.Told.{ReaderHasRead, ReaderHasTold}
 use Rattle.mn_hist.proofs.history.read_log.Given as goal
 

@@ -1,4 +1,4 @@
-use Rattle.mn_world.specs.Run.{entries_of}
+use Rattle.mn_runs.specs.Protocol.{entries_of}
 use Rattle.mn_hist.proofs.Joining.{on_found, told_whole}
 use Rattle.mn_hist.proofs.history.reader_of.Goals as goal
 

@@ -2,7 +2,7 @@ use Rattle.std.proofs.Common.{◌≡◌, ◌<◌, List, reverse, ap, subst, sym,
 use Rattle.std.specs.Option.{option_map}
 use Rattle.mn_base.specs.declared.answer.Answer.{Answer}
 use Rattle.mn_base.specs.declared.op.Op.{Op}
-use Rattle.mn_world.specs.Calls.{Begun}
+use Rattle.mn_runs.specs.Calls.{Begun}
 use Rattle.mn_hist.specs.History.{CallerState, Note, Noting, IsNotedPlace, AnswerHasPlace, AnswerIsInHistory, caller_state, notes_in}
 use Rattle.mn_hist.specs.Plans.{begun_of}
 use Rattle.mn_hist.proofs.Putting.{on_ok, at_index, puts_none, idle_puts, stands_already, puts_read}

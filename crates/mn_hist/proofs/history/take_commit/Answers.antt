@@ -1,8 +1,8 @@
 use Rattle.std.proofs.Common.{◌≡◌, ℕ, [], ◌∷◌, ◌++◌, ◌&&◌, ◌||◌, nat_eq, length, ap, subst, sym, ◌∙◌}
 use Rattle.mn_base.specs.Ids.{client_same}
 use Rattle.mn_base.specs.declared.ids.ClientNo.{ClientNo}
-use Rattle.mn_world.specs.CommitReader.{issued_of}
-use Rattle.mn_world.specs.History.{Placed}
+use Rattle.mn_commits.specs.CommitReader.{issued_of}
+use Rattle.mn_serial.specs.History.{Placed}
 use Rattle.mn_hist.specs.Acts.{Act}
 use Rattle.mn_hist.specs.History.{stands}
 use Rattle.mn_hist.proofs.Joining.{acts_last}

@@ -1,8 +1,8 @@
 use Rattle.std.proofs.Common.{◌≡◌, Option, Some, ap, subst, sym, ◌∙◌}
 use Rattle.std.specs.Option.{option_map}
-use Rattle.mn_world.specs.declared.commit_reader.CommittedMini.{CommittedMini}
-use Rattle.mn_world.specs.CommitReader.{issued_of}
-use Rattle.mn_world.specs.Commits.{committed_by}
+use Rattle.mn_commits.specs.declared.commit_reader.CommittedMini.{CommittedMini}
+use Rattle.mn_commits.specs.CommitReader.{issued_of}
+use Rattle.mn_runs.specs.Commits.{committed_by}
 use Rattle.mn_hist.specs.History.{CommitsAreInHistory}
 use Rattle.mn_hist.proofs.Joining.{named_here}
 use Rattle.mn_hist.proofs.Putting.{on_ok}

@@ -1,5 +1,5 @@
 use Rattle.std.proofs.Common.{Option, ap, subst, sym}
-use Rattle.mn_world.specs.Calls.{Issued, issue_in}
+use Rattle.mn_runs.specs.Calls.{Issued, issue_in}
 use Rattle.mn_hist.specs.History.{EntryHasPlace, EntryIsInHistory}
 use Rattle.mn_hist.proofs.Joining.{no_issue}
 use Rattle.mn_hist.proofs.Putting.{on_ok}

@@ -1,9 +1,9 @@
 use Rattle.std.proofs.Common.{◌≡◌, ℕ, List, [], Vec, Global, length, map, get_or, ap, subst, ◌∙◌, arith}
 use Rattle.mn_cell.specs.Runs.{placed_from}
-use Rattle.mn_world.specs.declared.entry.Entry.{Entry}
-use Rattle.mn_world.specs.declared.log.Spot.{Spot}
-use Rattle.mn_world.specs.Lists.{ClientState}
-use Rattle.mn_world.specs.Log.{AreSpots, log_of, nobody}
+use Rattle.mn_runs.specs.declared.entry.Entry.{Entry}
+use Rattle.mn_runs.specs.declared.log.Spot.{Spot}
+use Rattle.mn_runs.specs.Lists.{ClientState}
+use Rattle.mn_runs.specs.Log.{AreSpots, log_of, nobody}
 use Rattle.mn_hist.specs.Merging.{AreOneLog, HaveCallers, Hold, put_lists}
 use Rattle.mn_hist.proofs.Placing.{as_placed, is_nobodys, merged_whole, none_nobodys}
 use Rattle.mn_hist.proofs.Spots.{log_long, spots_there}

@@ -1,8 +1,8 @@
 use Rattle.std.proofs.Common.{Option, None, List, [], ◌∷◌, ◌++◌, sym, subst, ◌≡◌, ℕ, ◌+◌, ◌∙◌, length, map, ◌<◌, ◌≤◌, arith}
 use Rattle.std.specs.Prelude.{slice_set}
-use Rattle.mn_world.specs.declared.entry.Entry.{Entry}
-use Rattle.mn_world.specs.declared.log.Spot.{Spot}
-use Rattle.mn_world.specs.Log.{entry_at, log_of}
+use Rattle.mn_runs.specs.declared.entry.Entry.{Entry}
+use Rattle.mn_runs.specs.declared.log.Spot.{Spot}
+use Rattle.mn_runs.specs.Log.{entry_at, log_of}
 use Rattle.mn_hist.specs.Merging.{Hold, put_at}
 use Rattle.mn_hist.proofs.Placing.{as_long, hold_empty, hold_more, hold_put, put_empty}
 use Rattle.mn_hist.proofs.Spots.{log_long, log_more, log_set}

@@ -1,6 +1,6 @@
 use Rattle.std.proofs.Common.{◌≡◌, ◌-◌, List, Option, map, vec_len}
-use Rattle.mn_world.specs.declared.entry.Entry.{Entry}
-use Rattle.mn_world.specs.Log.{log_of}
+use Rattle.mn_runs.specs.declared.entry.Entry.{Entry}
+use Rattle.mn_runs.specs.Log.{log_of}
 use Rattle.mn_hist.specs.Merging.{Hold, put_at}
 use Rattle.mn_hist.proofs.merging.put.Given as goal
 

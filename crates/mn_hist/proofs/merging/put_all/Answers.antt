@@ -1,5 +1,5 @@
 use Rattle.std.proofs.Common.{ℕ, ◌<◌, List, [], length, map, get_or, ap, sym, ◌∙◌, arith}
-use Rattle.mn_world.specs.declared.entry.Entry.{Entry}
+use Rattle.mn_runs.specs.declared.entry.Entry.{Entry}
 use Rattle.mn_hist.specs.Merging.{put_list, put_lists}
 use Rattle.mn_hist.proofs.Spots.{drop_at, lists_long}
 use Rattle.mn_hist.proofs.merging.put_all.Goals as goal

@@ -1,6 +1,6 @@
 use Rattle.std.proofs.Common.{◌≡◌, List, [], Option, map, drop}
-use Rattle.mn_world.specs.declared.entry.Entry.{Entry}
-use Rattle.mn_world.specs.Log.{log_of}
+use Rattle.mn_runs.specs.declared.entry.Entry.{Entry}
+use Rattle.mn_runs.specs.Log.{log_of}
 use Rattle.mn_hist.specs.Merging.{Hold, put_lists}
 use Rattle.mn_hist.proofs.merging.put_all.Given as goal
 

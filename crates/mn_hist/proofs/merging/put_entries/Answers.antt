@@ -1,7 +1,7 @@
 use Rattle.std.proofs.Common.{◌≡◌, ℕ, List, Option, [], ◌∷◌, length, map, drop, get_or, ap, subst, sym, ◌∙◌, arith}
 use Rattle.std.proofs.lemmas.List.{drop_all}
-use Rattle.mn_world.specs.declared.entry.Entry.{Entry}
-use Rattle.mn_world.specs.Log.{log_of, nobody}
+use Rattle.mn_runs.specs.declared.entry.Entry.{Entry}
+use Rattle.mn_runs.specs.Log.{log_of, nobody}
 use Rattle.mn_hist.specs.Merging.{Hold, put_list}
 use Rattle.mn_hist.proofs.Spots.{drop_at, list_at}
 use Rattle.mn_hist.proofs.merging.put_entries.Goals as goal

@@ -1,6 +1,6 @@
 use Rattle.std.proofs.Common.{◌≡◌, List, [], Option, map, drop, get_or}
-use Rattle.mn_world.specs.declared.entry.Entry.{Entry}
-use Rattle.mn_world.specs.Log.{log_of}
+use Rattle.mn_runs.specs.declared.entry.Entry.{Entry}
+use Rattle.mn_runs.specs.Log.{log_of}
 use Rattle.mn_hist.specs.Merging.{Hold, put_list}
 use Rattle.mn_hist.proofs.merging.put_entries.Given as goal
 

@@ -1,10 +1,10 @@
 use Rattle.std.proofs.Common.{◌≡◌, List, length, take, ap, subst, sym, ◌∙◌, rules, arith}
-use Rattle.mn_world.specs.declared.entry.Entry.{Entry}
-use Rattle.mn_world.specs.Run.{entries_of}
+use Rattle.mn_runs.specs.declared.entry.Entry.{Entry}
+use Rattle.mn_runs.specs.Protocol.{entries_of}
 use Rattle.mn_hist.specs.Points.{points_met}
 use Rattle.mn_hist.specs.Watching.{TellsPointsMet}
 use Rattle.mn_hist.proofs.Joining.{take_whole}
-use Rattle.mn_world.proofs.Logs.{newest}
+use Rattle.mn_runs.proofs.Logs.{newest}
 use Rattle.mn_hist.proofs.Watched.{meets_none}
 use Rattle.mn_hist.proofs.points.points_met.Goals as goal
 

@@ -1,5 +1,5 @@
 use Rattle.std.proofs.Common.{take}
-use Rattle.mn_world.specs.Run.{entries_of}
+use Rattle.mn_runs.specs.Protocol.{entries_of}
 use Rattle.mn_hist.specs.Watching.{IsWatchOf, TellsPointsMet}
 use Rattle.mn_hist.proofs.points.points_met.Given as goal
 

@@ -1,6 +1,6 @@
 use Rattle.std.proofs.Common.{◌≡◌, false, subst, sym}
 use Rattle.std.specs.List.{AllByRecursion}
-use Rattle.mn_world.specs.Shown.{Seen, seen_at}
+use Rattle.mn_runs.specs.Seen.{Seen, seen_at}
 use Rattle.mn_hist.specs.Shown.{as_seen, is_of_catalog}
 use Rattle.mn_hist.proofs.Notings.{told_read}
 use Rattle.mn_hist.proofs.shown.reads_catalog.Goals as goal

@@ -1,10 +1,8 @@
 use Rattle.std.proofs.Common.{ℕ, List, Option, sym, subst, ◌∙◌}
 use Rattle.std.specs.List.{AllByRecursion}
 use Rattle.mn_actors.specs.Lists.{or_empty}
-use Rattle.mn_world.specs.declared.entry.Entry.{Entry}
-use Rattle.mn_world.specs.Laws.{NodeListAllowed}
-use Rattle.mn_world.specs.Protocol.{start_of}
-use Rattle.mn_world.specs.Run.{entries_of}
+use Rattle.mn_runs.specs.declared.entry.Entry.{Entry}
+use Rattle.mn_runs.specs.Protocol.{NodeListAllowed, start_of, entries_of}
 use Rattle.mn_cell.specs.Calls.{numbered}
 use Rattle.mn_cell.specs.Station.{HasCaller}
 use Rattle.mn_hist.proofs.Meeting.{parts_of_two}

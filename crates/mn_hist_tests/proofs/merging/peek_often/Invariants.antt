@@ -3,8 +3,7 @@ use Rattle.std.specs.List.{AllByRecursion}
 use Rattle.mn_actors.specs.declared.actor.Actor.TheVariants.{Client}
 use Rattle.mn_actors.specs.Lists.{held}
 use Rattle.mn_actors.specs.Sight.{board_of, view_of}
-use Rattle.mn_world.specs.Protocol.{Start}
-use Rattle.mn_world.specs.Run.{entries_of}
+use Rattle.mn_runs.specs.Protocol.{Start, entries_of}
 use Rattle.mn_cell.specs.Passes.{OwnsJust}
 use Rattle.mn_cell.specs.Runs.{IsIssueOf}
 use Rattle.mn_hist_tests.proofs.merging.peek_often.Given as goal

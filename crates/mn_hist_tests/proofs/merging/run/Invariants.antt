@@ -1,6 +1,6 @@
 use Rattle.std.proofs.Common.{[], ◌∷◌, refl, nat_eq, if◌then◌else◌}
 use Rattle.mn_actors.specs.Sight.{id_of}
-use Rattle.mn_world.specs.Protocol.{run_number, start_of}
+use Rattle.mn_runs.specs.Protocol.{run_number, start_of}
 use Rattle.mn_hist_tests.proofs.merging.run.Given as goal
 
 abbrev pub ghosts-meet : goal.ghosts-meet

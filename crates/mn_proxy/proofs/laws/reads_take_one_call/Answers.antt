@@ -15,7 +15,7 @@ use Rattle.mn_mini.specs.declared.item.Item.TheVariants.{Read}
 use Rattle.mn_mini.specs.Mini.{Mini, participants_of}
 use Rattle.mn_mini.proofs.Parts.{named_takes_part}
 use Rattle.mn_mini.specs.declared.reply.NodeReply.TheVariants as Say
-use Rattle.mn_world.specs.Places.{Place}
+use Rattle.mn_runs.specs.Seen.{Place}
 use Rattle.mn_proxy.specs.LeafReads.{read_request, with_bytes}
 use Rattle.mn_proxy.specs.Turns.{read_mini}
 use Rattle.mn_proxy.proofs.Feeding.{asks_read, only_reads, read_few}

@@ -1,5 +1,5 @@
 use Rattle.std.proofs.Common.{◌≡◌, drop}
-use Rattle.mn_world.specs.Calls.{lists_doubt}
+use Rattle.mn_runs.specs.Calls.{lists_doubt}
 use Rattle.mn_recov.proofs.recoverer.place_of.Given as goal
 
 -- the id isn't among the doubts so far

@@ -1,5 +1,5 @@
 use Rattle.std.proofs.Common.{ℕ, OnOk, true, false, sym, subst}
-use Rattle.mn_world.specs.Protocol.{start_of}
+use Rattle.mn_runs.specs.Protocol.{start_of}
 use Rattle.mn_callers.specs.Stages.{GoesAs, state_of}
 use Rattle.mn_callers.specs.Plays.{AreReady}
 use Rattle.mn_replay.specs.Schedule.{DoesAct, RecoversFor}

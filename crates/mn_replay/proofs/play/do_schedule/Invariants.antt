@@ -1,5 +1,5 @@
 use Rattle.std.proofs.Common.{take}
-use Rattle.mn_world.specs.Protocol.{start_of}
+use Rattle.mn_runs.specs.Protocol.{start_of}
 use Rattle.mn_callers.specs.Stages.{GoesAs, state_of}
 use Rattle.mn_callers.specs.Plays.{AreReady, IsPlay}
 use Rattle.mn_replay.specs.Schedule.{DoesActs}

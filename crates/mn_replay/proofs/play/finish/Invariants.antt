@@ -1,6 +1,6 @@
 use Rattle.std.proofs.Common.{map}
 use Rattle.std.specs.List.{range_with_len}
-use Rattle.mn_world.specs.Protocol.{start_of}
+use Rattle.mn_runs.specs.Protocol.{start_of}
 use Rattle.mn_callers.specs.Stages.{GoesAs, state_of}
 use Rattle.mn_callers.specs.Plays.{AreReady, IsPlay}
 use Rattle.mn_replay.specs.Schedule.{DoesActs, all_of}

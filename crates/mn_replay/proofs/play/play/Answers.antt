@@ -1,8 +1,8 @@
 use Rattle.std.proofs.Common.{◌≡◌, Err, List, ap, ◌∙◌, sym}
 use Rattle.std.proofs.lemmas.Result.{err_from_is_err_and}
 use Rattle.mn_cell.specs.declared.trace.RunCause.{RunCause}
-use Rattle.mn_world.specs.declared.entry.Entry.{Entry}
-use Rattle.mn_world.specs.Protocol.{start_of}
+use Rattle.mn_runs.specs.declared.entry.Entry.{Entry}
+use Rattle.mn_runs.specs.Protocol.{start_of}
 use Rattle.mn_replay.specs.Follows.{IsPlayed}
 use Rattle.mn_callers.specs.Stages.{AreFreeIfSound, GoesAs, Settles, state_of}
 use Rattle.mn_callers.specs.Logs.{HasLog}

@@ -5,10 +5,9 @@ use Rattle.mn_actors.specs.Sight.{board_of, view_of}
 use Rattle.mn_base.specs.declared.ids.ClientNo.{ClientNo}
 use Rattle.mn_base.specs.declared.ids.Tid.{Tid}
 use Rattle.mn_mini.specs.RecordGrammar.{IsTid}
-use Rattle.mn_world.specs.declared.entry.Entry.{Entry}
-use Rattle.mn_world.specs.Calls.{issues_of}
-use Rattle.mn_world.specs.Protocol.{start_of}
-use Rattle.mn_world.specs.Run.{entries_of}
+use Rattle.mn_runs.specs.declared.entry.Entry.{Entry}
+use Rattle.mn_runs.specs.Calls.{issues_of}
+use Rattle.mn_runs.specs.Protocol.{start_of, entries_of}
 use Rattle.mn_callers.specs.Clients.{last_shared}
 use Rattle.mn_callers.specs.Stages.{GoesAs, state_of}
 use Rattle.mn_callers.specs.Plays.{caller_at, list_by, state_at}

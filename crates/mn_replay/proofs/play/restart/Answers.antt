@@ -1,6 +1,6 @@
 use Rattle.std.proofs.Common.{refl, ◌∙◌}
 use Rattle.mn_actors.specs.Sight.{board_of, view_of}
-use Rattle.mn_world.specs.Protocol.{start_of}
+use Rattle.mn_runs.specs.Protocol.{start_of}
 use Rattle.mn_replay.specs.Schedule.{RestartsNode}
 use Rattle.mn_callers.specs.Plays.{state_at}
 use Rattle.mn_callers.specs.Stages.{state_of}

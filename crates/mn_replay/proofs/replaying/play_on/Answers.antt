@@ -1,9 +1,8 @@
 use Rattle.std.proofs.Common.{◌≡◌, Err, List, IfErr, OnOk, ap, subst, ◌∙◌}
 use Rattle.std.proofs.lemmas.Result.{err_from_is_err_and}
 use Rattle.mn_mini.specs.declared.record.Record.{Record}
-use Rattle.mn_world.specs.declared.entry.Entry.{Entry}
-use Rattle.mn_world.specs.Protocol.{start_of}
-use Rattle.mn_world.specs.Run.{entries_of}
+use Rattle.mn_runs.specs.declared.entry.Entry.{Entry}
+use Rattle.mn_runs.specs.Protocol.{start_of, entries_of}
 use Rattle.mn_callers.proofs.Played.{told_as, told_by}
 use Rattle.mn_callers.specs.Failed.{IsDamage}
 use Rattle.mn_callers.specs.Logs.{HasLog}

@@ -2,7 +2,7 @@ use Rattle.std.proofs.Common.{refl, map, MatchOption}
 use Rattle.std.specs.Prelude.{slice_get}
 use Rattle.std.specs.Option.{option_map_or}
 use Rattle.mn_actors.specs.Sight.{id_of}
-use Rattle.mn_world.specs.Protocol.{run_number}
+use Rattle.mn_runs.specs.Protocol.{run_number}
 use Rattle.mn_callers.specs.Trace.{start_on}
 use Rattle.mn_replay.proofs.replaying.replay.Given as goal
 

@@ -2,7 +2,7 @@ use Rattle.std.proofs.Common.{ℕ, List, length, ap, sym, subst, ◌≤◌, ◌�
 use Rattle.std.specs.List.{AllByRecursion}
 use Rattle.mn_mini.specs.Mini.{space_size}
 use Rattle.std.proofs.lemmas.Result.{IfOk-weaker}
-use Rattle.mn_world.specs.Protocol.{start_of}
+use Rattle.mn_runs.specs.Protocol.{start_of}
 use Rattle.mn_top.specs.Opening.{IsOpenedAs}
 use Rattle.mn_top.proofs.Fresh.{fresh_opens}
 use Rattle.mn_top.proofs.Memories.{memory_count, memory_whole}

@@ -1,5 +1,5 @@
 use Rattle.std.proofs.Common.{◌≡◌, ◌≤◌, ◌+◌, drop}
-use Rattle.mn_world.specs.Growth.{taken_on}
+use Rattle.mn_plans.specs.Growth.{taken_on}
 use Rattle.mn_txn.proofs.attempt.given_on.Given as goal
 
 -- those so far, and those that are left

@@ -1,7 +1,7 @@
 use Rattle.std.proofs.Common.{◌≡◌, ◌+◌, ◌*◌, Bool, [], ◌∷◌, refl, sym, ap, ◌∙◌, if◌then◌else◌}
 use Rattle.std.proofs.lemmas.Result.{on_ok_weaker}
 use Rattle.mn_page.specs.Grammar.{entry_bytes}
-use Rattle.mn_world.specs.Growth.{node_no}
+use Rattle.mn_plans.specs.Growth.{node_no}
 use Rattle.mn_txn.specs.AttemptPlan.{entry_read, with_reads}
 use Rattle.mn_txn.specs.Children.{entry_image}
 use Rattle.mn_txn.proofs.ChildTxn.{read_in, read_on}

@@ -1,7 +1,7 @@
 use Rattle.std.proofs.Common.{[], replicate, refl, ◌+◌, ◌*◌}
 use Rattle.byteorder.specs.Endian.{big_bytes}
 use Rattle.mn_page.specs.Grammar.{page_bytes, entry_bytes}
-use Rattle.mn_world.specs.Growth.{node_no}
+use Rattle.mn_plans.specs.Growth.{node_no}
 use Rattle.mn_txn.specs.State.{State}
 use Rattle.mn_txn.proofs.ChildTxn.{read_in, read_on}
 use Rattle.mn_txn.proofs.child.read_for.Goals as goal

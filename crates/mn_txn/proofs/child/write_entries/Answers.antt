@@ -2,7 +2,7 @@ use Rattle.std.proofs.Common.{◌+◌, ◌*◌, ◌∷◌, drop, refl, sym, ap, 
 use Rattle.std.proofs.lemmas.List.{at_drop_more}
 use Rattle.mn_page.specs.Grammar.{entry_bytes}
 use Rattle.mn_catalog.specs.Versions.{Numbered}
-use Rattle.mn_world.specs.Growth.{node_no}
+use Rattle.mn_plans.specs.Growth.{node_no}
 use Rattle.mn_txn.specs.State.{State}
 use Rattle.mn_txn.specs.ChildPlan.{with_entries}
 use Rattle.mn_txn.proofs.ChildTxn.{written_on}

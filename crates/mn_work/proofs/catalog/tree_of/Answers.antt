@@ -6,7 +6,7 @@ use Rattle.mn_page.specs.Forest.{heads_in}
 use Rattle.mn_vtree.specs.Parents.{RefusesParents, numbers_of}
 use Rattle.mn_vtree.specs.declared.error.TreeError.{TreeError}
 use Rattle.mn_vtree.specs.declared.error.TreeError.TheVariants.{BadParent, NoMemory}
-use Rattle.mn_world.specs.Answers.{ParentsAreBelow}
+use Rattle.mn_law.specs.Answers.{ParentsAreBelow}
 use Rattle.mn_work.specs.Catalogs.{RefusesTree}
 use Rattle.mn_path.proofs.Pairs.{none_left}
 use Rattle.mn_work.proofs.Versions.{below, none_below, parents_are}

@@ -1,6 +1,6 @@
 use Rattle.std.proofs.Common.{List, None}
 use Rattle.mn_base.specs.declared.op.Op.{Op}
-use Rattle.mn_world.specs.Shown.{Seen}
+use Rattle.mn_runs.specs.Seen.{Seen}
 use Rattle.mn_work.specs.Among.{AreBrought, WalksAmong}
 use Rattle.mn_work.specs.Walks.{IsAbove}
 use Rattle.mn_work.proofs.causes.fault_among.Given as goal

@@ -5,7 +5,7 @@ use Rattle.mn_base.specs.declared.answer.Busy.TheVariants.{Path}
 use Rattle.mn_page.specs.declared.page.Page.{Page}
 use Rattle.mn_page.specs.Grammar.{IsFree, SpellsPage, height_of}
 use Rattle.mn_path.specs.Walk.{FrontState, is_on_path}
-use Rattle.mn_world.specs.Answers.{MeetsFault, ReachesAddr}
+use Rattle.mn_law.specs.Answers.{MeetsFault, ReachesAddr}
 use Rattle.mn_work.specs.Walks.{height_below}
 use Rattle.mn_work.proofs.Among.{page_is_bad, page_leads}
 use Rattle.mn_work.proofs.causes.met_page.Goals as goal

@@ -1,7 +1,7 @@
 use Rattle.std.proofs.Common.{[], List, length, refl, sym, ap, ◌∙◌, subst}
 use Rattle.mn_actors.specs.Sight.{clients_of, nodes_of, view_of}
 use Rattle.mn_node.specs.State.{NodeState}
-use Rattle.mn_world.specs.Protocol.{start_of}
+use Rattle.mn_runs.specs.Protocol.{start_of}
 use Rattle.mn_callers.specs.Failed.{IsRunOn}
 use Rattle.mn_callers.specs.Plays.{state_at}
 use Rattle.mn_callers.specs.Trace.{HaveSoundRecords}

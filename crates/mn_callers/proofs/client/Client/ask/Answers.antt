@@ -1,7 +1,7 @@
 use Rattle.std.proofs.Common.{◌≤◌, length, subst, ap, ◌∙◌}
 use Rattle.mn_base.specs.declared.ids.ClientNo.{ClientNo}
 use Rattle.mn_hist.proofs.Flags.{as_many}
-use Rattle.mn_world.specs.Lists.{ClientState}
+use Rattle.mn_runs.specs.Lists.{ClientState}
 use Rattle.mn_callers.specs.Clients.{past_of}
 use Rattle.mn_callers.proofs.Hands.{moves_further, moves_same, turn_same}
 use Rattle.mn_callers.proofs.ClientCalls.{asked_answer, asked_client, asked_list, asked_none, asked_noted, asked_run, asked_stays, asked_unnoted, at_work_number, may_send, plain_out, stop_asked}

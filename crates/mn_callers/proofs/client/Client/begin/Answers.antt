@@ -1,7 +1,7 @@
 use Rattle.std.proofs.Common.{◌+◌, ap, inl, refl, subst, sym, ◌∙◌}
 use Rattle.mn_base.specs.declared.op.Op.{Op}
 use Rattle.mn_work.specs.declared.work.Work.{Work}
-use Rattle.mn_world.specs.declared.entry.What.TheVariants.{Begin}
+use Rattle.mn_runs.specs.declared.entry.What.TheVariants.{Begin}
 use Rattle.mn_callers.proofs.Hands.{moves_further, moves_nowhere}
 use Rattle.mn_callers.specs.Clients.{past_of}
 use Rattle.mn_callers.specs.Steps.{own_entry}

@@ -1,7 +1,7 @@
 use Rattle.std.proofs.Common.{None, false, ℕ, refl, ap, ◌∙◌}
 use Rattle.mn_proxy.specs.State.{new_proxy}
-use Rattle.mn_world.specs.Lists.{ClientState}
-use Rattle.mn_world.specs.Protocol.{run_number}
+use Rattle.mn_runs.specs.Lists.{ClientState}
+use Rattle.mn_runs.specs.Protocol.{run_number}
 use Rattle.mn_callers.specs.declared.client.Client.{Client}
 use Rattle.mn_callers.proofs.ClientCalls.{first_client}
 use Rattle.mn_callers.proofs.client.Client.new.Goals as goal

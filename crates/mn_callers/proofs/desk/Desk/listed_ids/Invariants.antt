@@ -1,7 +1,7 @@
 use Rattle.std.proofs.Common.{◌≡◌, None}
 use Rattle.std.specs.List.{AllByRecursion}
 use Rattle.mn_mini.specs.RecordGrammar.{IsTid}
-use Rattle.mn_world.specs.Run.{entries_of}
+use Rattle.mn_runs.specs.Protocol.{entries_of}
 use Rattle.mn_callers.specs.Desks.{IsDesk, RecoversOn}
 use Rattle.mn_callers.specs.Hands.{HasTurn, MovesOn, hand_of}
 use Rattle.mn_callers.proofs.desk.Desk.listed_ids.Given as goal

@@ -1,6 +1,6 @@
 use Rattle.std.proofs.Common.{ℕ, true, false, ap, ◌∙◌, inr}
-use Rattle.mn_world.specs.Lists.{ClientState}
-use Rattle.mn_world.specs.Protocol.{start_nodes}
+use Rattle.mn_runs.specs.Lists.{ClientState}
+use Rattle.mn_runs.specs.Protocol.{start_nodes}
 use Rattle.mn_callers.specs.Recoveries.{bench_of, work_of}
 use Rattle.mn_callers.proofs.Recoveries.{asked_next, asked_none}
 use Rattle.mn_callers.proofs.Hands.{moves_further, moves_same, turn_same}

@@ -1,10 +1,9 @@
 use Rattle.std.proofs.Common.{◌≡◌, List}
-use Rattle.mn_world.specs.declared.entry.Entry.{Entry}
-use Rattle.mn_world.specs.Calls.{issues_of}
-use Rattle.mn_world.specs.Protocol.{start_nodes}
+use Rattle.mn_runs.specs.declared.entry.Entry.{Entry}
+use Rattle.mn_runs.specs.Calls.{issues_of}
+use Rattle.mn_runs.specs.Protocol.{start_nodes, entries_of}
 use Rattle.mn_callers.specs.Clients.{last_shared}
 use Rattle.mn_callers.specs.Closing.{calls_of}
-use Rattle.mn_world.specs.Run.{entries_of}
 use Rattle.mn_callers.specs.Desks.{IsDesk, RecoversOn}
 use Rattle.mn_callers.specs.Recoveries.{bench_of}
 use Rattle.mn_callers.specs.Hands.{HasTurn, MovesOn, hand_of}

@@ -1,5 +1,5 @@
 use Rattle.std.proofs.Common.{ap}
-use Rattle.mn_world.specs.Lists.{ClientState}
+use Rattle.mn_runs.specs.Lists.{ClientState}
 use Rattle.mn_callers.proofs.Hands.{moves_same}
 use Rattle.mn_callers.proofs.desk.Desk.step.Goals as goal
 

@@ -1,6 +1,6 @@
 use Rattle.std.proofs.Common.{ap, subst}
-use Rattle.mn_world.specs.Lists.{ClientState}
-use Rattle.mn_world.specs.Run.{entries_of}
+use Rattle.mn_runs.specs.Lists.{ClientState}
+use Rattle.mn_runs.specs.Protocol.{entries_of}
 use Rattle.mn_callers.specs.declared.desk.Desk.{Desk}
 use Rattle.mn_callers.specs.Desks.{RecoversOn}
 use Rattle.mn_callers.specs.Hands.{MovesOn, hand_of}

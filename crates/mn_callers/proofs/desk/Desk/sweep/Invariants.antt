@@ -1,5 +1,5 @@
 use Rattle.std.proofs.Common.{◌≡◌, None}
-use Rattle.mn_world.specs.Run.{entries_of}
+use Rattle.mn_runs.specs.Protocol.{entries_of}
 use Rattle.mn_callers.specs.Desks.{IsDesk, RecoversOn}
 use Rattle.mn_callers.specs.Hands.{HasTurn, MovesOn, hand_of}
 use Rattle.mn_callers.proofs.desk.Desk.sweep.Given as goal

@@ -1,5 +1,5 @@
 use Rattle.std.proofs.Common.{sym}
-use Rattle.mn_world.specs.Protocol.{base_at, start_of}
+use Rattle.mn_runs.specs.Protocol.{base_at, start_of}
 use Rattle.mn_callers.specs.Settled.{records_at}
 use Rattle.mn_callers.specs.Turn.{turn_at}
 use Rattle.mn_callers.proofs.Advancing.{fed_on}

@@ -1,5 +1,5 @@
 use Rattle.std.proofs.Common.{refl, sym}
-use Rattle.mn_world.specs.Protocol.{start_of}
+use Rattle.mn_runs.specs.Protocol.{start_of}
 use Rattle.mn_callers.specs.Turn.{turn_at}
 use Rattle.mn_callers.proofs.Closing.{caused_by, closes_called, closing_called, never_damage, no_failure, up_not_down}
 use Rattle.mn_callers.proofs.Stations.{not_none}

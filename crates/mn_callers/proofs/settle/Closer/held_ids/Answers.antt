@@ -2,7 +2,7 @@ use Rattle.std.proofs.Common.{List, refl, sym, subst, arith}
 use Rattle.std.specs.List.{AllByRecursion}
 use Rattle.mn_base.specs.declared.ids.Tid.{Tid}
 use Rattle.mn_mini.specs.RecordGrammar.{IsTid}
-use Rattle.mn_world.specs.Run.{entries_of}
+use Rattle.mn_runs.specs.Protocol.{entries_of}
 use Rattle.mn_callers.specs.Settled.{records_at}
 use Rattle.mn_callers.proofs.Closing.{closes_further, closes_nowhere, held_more, held_next, ids_kept}
 use Rattle.mn_callers.proofs.Turns.{goes_further, goes_nowhere}

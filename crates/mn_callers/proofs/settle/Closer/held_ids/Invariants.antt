@@ -2,8 +2,7 @@ use Rattle.std.proofs.Common.{ℕ, ◌<◌}
 use Rattle.std.specs.List.{AllByRecursion}
 use Rattle.mn_cell.specs.Calls.{numbered}
 use Rattle.mn_mini.specs.RecordGrammar.{IsTid}
-use Rattle.mn_world.specs.Protocol.{start_of}
-use Rattle.mn_world.specs.Run.{entries_of}
+use Rattle.mn_runs.specs.Protocol.{start_of, entries_of}
 use Rattle.mn_callers.specs.Closing.{AreHeldIn, ClosesOn, IsClosing}
 use Rattle.mn_callers.specs.Settled.{AllUp, records_at}
 use Rattle.mn_callers.specs.Turn.{ExtendsLog, turn_at}

@@ -1,6 +1,5 @@
 use Rattle.std.proofs.Common.{◌∙◌}
-use Rattle.mn_world.specs.Protocol.{start_of}
-use Rattle.mn_world.specs.Run.{entries_of}
+use Rattle.mn_runs.specs.Protocol.{start_of, entries_of}
 use Rattle.mn_callers.specs.Settled.{records_at}
 use Rattle.mn_callers.proofs.Advancing.{begins, over_done}
 use Rattle.mn_callers.proofs.Closing.{closes_further, closes_nowhere}

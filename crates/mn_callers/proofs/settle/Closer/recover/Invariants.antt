@@ -1,6 +1,5 @@
 use Rattle.std.proofs.Common.{◌≡◌, length}
-use Rattle.mn_world.specs.Protocol.{start_of}
-use Rattle.mn_world.specs.Run.{entries_of}
+use Rattle.mn_runs.specs.Protocol.{start_of, entries_of}
 use Rattle.mn_callers.specs.Closing.{AllExtend, ClosesOn, IsClosing, IsDoneTo, calls_left}
 use Rattle.mn_callers.specs.Desks.{IsWork}
 use Rattle.mn_callers.specs.Settled.{AllUp, records_at}

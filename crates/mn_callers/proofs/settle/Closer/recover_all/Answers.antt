@@ -1,5 +1,5 @@
 use Rattle.std.proofs.Common.{arith}
-use Rattle.mn_world.specs.Run.{entries_of}
+use Rattle.mn_runs.specs.Protocol.{entries_of}
 use Rattle.mn_callers.specs.Settled.{records_at}
 use Rattle.mn_callers.proofs.Advancing.{all_done, done_next}
 use Rattle.mn_callers.proofs.Closing.{closes_further, closes_nowhere}

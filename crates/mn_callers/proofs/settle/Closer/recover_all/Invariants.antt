@@ -1,7 +1,6 @@
 use Rattle.std.proofs.Common.{◌≡◌, ◌<◌, ℕ, Some, length, slice_get}
 use Rattle.mn_base.specs.declared.ids.Tid.{Tid}
-use Rattle.mn_world.specs.Protocol.{start_of}
-use Rattle.mn_world.specs.Run.{entries_of}
+use Rattle.mn_runs.specs.Protocol.{start_of, entries_of}
 use Rattle.mn_callers.specs.Closing.{AllExtend, ClosesOn, IsClosing, IsDone}
 use Rattle.mn_callers.specs.Settled.{AllUp, records_at}
 use Rattle.mn_callers.specs.Turn.{ExtendsLog, turn_at}

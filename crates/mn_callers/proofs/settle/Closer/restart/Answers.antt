@@ -1,5 +1,5 @@
 use Rattle.std.proofs.Common.{inl}
-use Rattle.mn_world.specs.Protocol.{start_of}
+use Rattle.mn_runs.specs.Protocol.{start_of}
 use Rattle.mn_callers.specs.Turn.{turn_at}
 use Rattle.mn_callers.proofs.Closing.{closes_restarted, closing_restarted}
 use Rattle.mn_callers.proofs.Doings.{went_or_not}

@@ -1,5 +1,5 @@
 use Rattle.std.proofs.Common.{arith}
-use Rattle.mn_world.specs.Run.{entries_of}
+use Rattle.mn_runs.specs.Protocol.{entries_of}
 use Rattle.mn_cell.specs.Calls.{numbered}
 use Rattle.mn_callers.proofs.ClientSteps.{on_error}
 use Rattle.mn_callers.proofs.Closing.{all_are_up, all_up, closes_further, closes_kept, closes_nowhere, up_more, up_not_down}

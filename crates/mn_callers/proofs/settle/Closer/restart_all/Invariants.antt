@@ -1,7 +1,6 @@
 use Rattle.std.proofs.Common.{ℕ, ◌<◌, false}
 use Rattle.mn_cell.specs.Calls.{numbered}
-use Rattle.mn_world.specs.Protocol.{start_of}
-use Rattle.mn_world.specs.Run.{entries_of}
+use Rattle.mn_runs.specs.Protocol.{start_of, entries_of}
 use Rattle.mn_callers.specs.Closing.{ClosesOn, IsClosing}
 use Rattle.mn_callers.specs.Doings.{IsDownAs}
 use Rattle.mn_callers.specs.Settled.{AllUp}

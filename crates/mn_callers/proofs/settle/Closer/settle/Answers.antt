@@ -1,7 +1,7 @@
 use Rattle.std.proofs.Common.{List, subst, sym}
 use Rattle.std.specs.Prelude.{Contains}
 use Rattle.mn_base.specs.declared.ids.Tid.{Tid}
-use Rattle.mn_world.specs.Protocol.{start_of}
+use Rattle.mn_runs.specs.Protocol.{start_of}
 use Rattle.mn_callers.proofs.Closing.{any_error, bare_up, closes_after, closes_further, if_error, on_ok, settled_by}
 use Rattle.mn_callers.proofs.Turns.{goes_further}
 use Rattle.mn_callers.proofs.settle.Closer.settle.Goals as goal

@@ -5,7 +5,7 @@ use Rattle.mn_actors.specs.Sight.{board_of, view_of}
 use Rattle.mn_base.specs.declared.op.Op.{Op}
 use Rattle.mn_script.specs.declared.elements.Point.{Point}
 use Rattle.mn_script.specs.declared.elements.ScriptClient.{ScriptClient}
-use Rattle.mn_world.specs.Protocol.{start_of}
+use Rattle.mn_runs.specs.Protocol.{start_of}
 use Rattle.mn_callers.specs.declared.callers.Callers.{Callers}
 use Rattle.mn_callers.specs.Acts.{Role, as_role}
 use Rattle.mn_callers.specs.Clients.{IsClient, IsOfRun, past_of}

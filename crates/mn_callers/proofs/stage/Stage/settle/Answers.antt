@@ -1,9 +1,7 @@
 use Rattle.std.proofs.Common.{refl, ◌∙◌, List, length}
 use Rattle.mn_actors.specs.Sight.{board_of, view_of}
-use Rattle.mn_world.specs.declared.entry.Entry.{Entry}
-use Rattle.mn_world.specs.OneHistory.{AreUp}
-use Rattle.mn_world.specs.Protocol.{start_of}
-use Rattle.mn_world.specs.Run.{entries_of}
+use Rattle.mn_runs.specs.declared.entry.Entry.{Entry}
+use Rattle.mn_runs.specs.Protocol.{AreUp, start_of, entries_of}
 use Rattle.mn_callers.specs.Closing.{ClosesOn}
 use Rattle.mn_callers.specs.Plays.{state_at}
 use Rattle.mn_callers.specs.Stages.{AreFreeIfSound, GoesAs, Settles, state_of}

@@ -2,8 +2,8 @@ use Rattle.std.proofs.Common.{◌≡◌, ◌++◌, ◌∷◌, [], Some, slice_ge
 use Rattle.mn_base.specs.declared.ids.NodeNo.{NodeNo}
 use Rattle.mn_cell.specs.Calls.{entry_at, what_said}
 use Rattle.mn_cell.specs.Promises.{IsOwedAt, decided_by}
-use Rattle.mn_world.specs.Protocol.{start_of}
-use Rattle.mn_world.specs.Run.{IsLegalBy, entries_of}
+use Rattle.mn_runs.specs.Protocol.{start_of, entries_of}
+use Rattle.mn_law.specs.Run.{IsLegalBy}
 use Rattle.mn_callers.specs.Turn.{turn_at}
 use Rattle.mn_callers.proofs.Stations.{answered, down_not_none, entered, made_at, not_none, others_stay, stopped, stopped_not_none, was_down}
 use Rattle.mn_callers.proofs.Turns.{goes_called, goes_still, if_none, is_among, its_number, read_there, turn_called}

@@ -2,10 +2,10 @@ use Rattle.std.proofs.Common.{◌≡◌, ◌++◌, ◌∷◌, [], None, Some, sl
 use Rattle.mn_base.specs.declared.ids.NodeNo.{NodeNo}
 use Rattle.mn_actors.specs.Sight.{view_of}
 use Rattle.mn_cell.specs.Calls.{entry_at}
-use Rattle.mn_world.specs.declared.entry.What.TheVariants.{Stopped}
-use Rattle.mn_world.specs.Lists.{ClientState}
-use Rattle.mn_world.specs.Nodes.{is_down}
-use Rattle.mn_world.specs.Run.{entries_of}
+use Rattle.mn_runs.specs.declared.entry.What.TheVariants.{Stopped}
+use Rattle.mn_runs.specs.Lists.{ClientState}
+use Rattle.mn_runs.specs.Nodes.{is_down}
+use Rattle.mn_runs.specs.Protocol.{entries_of}
 use Rattle.mn_callers.specs.Turn.{turn_at}
 use Rattle.mn_callers.proofs.Doings.{by_halted, by_same, goes_by, in_both_ways, not_ok}
 use Rattle.mn_callers.proofs.Turns.{by_flag, goes_called, goes_still, is_among, its_number, read_there, turn_called}

@@ -1,5 +1,5 @@
 use Rattle.mn_actors.specs.Sight.{board_of, view_of}
-use Rattle.mn_world.specs.Protocol.{start_of}
+use Rattle.mn_runs.specs.Protocol.{start_of}
 use Rattle.mn_callers.specs.Plays.{state_at}
 use Rattle.mn_callers.proofs.Heard.{still_rests}
 use Rattle.mn_callers.proofs.Since.{heard_log, heard_since}

@@ -3,7 +3,7 @@ use Rattle.std.specs.Prelude.{slice_get}
 use Rattle.std.proofs.lemmas.Bool.{ltb-false, ltb-true}
 use Rattle.std.proofs.lemmas.Option.{slice_get_within}
 use Rattle.mn_cell.specs.Station.{StationState}
-use Rattle.mn_world.specs.Protocol.{start_of}
+use Rattle.mn_runs.specs.Protocol.{start_of}
 use Rattle.mn_callers.specs.Ended.{HasMadeList}
 use Rattle.mn_callers.proofs.Handing.{read_at}
 use Rattle.mn_callers.proofs.Handing.{some_same}

@@ -3,11 +3,10 @@ use Rattle.mn_base.specs.declared.ids.NodeNo.{NodeNo}
 use Rattle.mn_actors.specs.Sight.{view_of}
 use Rattle.mn_cell.specs.Calls.{EndsBoth, entry_at}
 use Rattle.mn_cell.specs.Station.{RoseBy, unasked}
-use Rattle.mn_world.specs.declared.entry.What.TheVariants.{Restarted}
-use Rattle.mn_world.specs.Run.{entries_of}
-use Rattle.mn_world.specs.Lists.{ClientState}
-use Rattle.mn_world.specs.Nodes.{is_down}
-use Rattle.mn_world.specs.Protocol.{start_of}
+use Rattle.mn_runs.specs.declared.entry.What.TheVariants.{Restarted}
+use Rattle.mn_runs.specs.Protocol.{entries_of, start_of}
+use Rattle.mn_runs.specs.Lists.{ClientState}
+use Rattle.mn_runs.specs.Nodes.{is_down}
 use Rattle.mn_callers.specs.Turn.{turn_at}
 use Rattle.mn_callers.proofs.Doings.{by_kept, by_same, goes_by, in_both_ways}
 use Rattle.mn_callers.proofs.Stations.{caused, down_as, made_at, others_stay, was_as}

@@ -1,6 +1,7 @@
 use Rattle.std.proofs.Common.{sym, subst}
 use Rattle.mn_base.specs.declared.ids.NodeNo.{NodeNo}
-use Rattle.mn_world.specs.Run.{IsLegalBy, entries_of}
+use Rattle.mn_law.specs.Run.{IsLegalBy}
+use Rattle.mn_runs.specs.Protocol.{entries_of}
 use Rattle.mn_cell.specs.Calls.{entry_at, what_said}
 use Rattle.mn_cell.proofs.cell.Cell.call.Goals as goal
 

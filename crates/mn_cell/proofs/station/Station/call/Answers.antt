@@ -9,12 +9,11 @@ use Rattle.mn_mini.specs.declared.reply.NodeReply.TheVariants as Say
 use Rattle.mn_actors.specs.declared.actor.Actor.TheVariants.{Client}
 use Rattle.mn_actors.specs.Lists.{held}
 use Rattle.mn_actors.specs.Sight.{view_of}
-use Rattle.mn_world.specs.declared.entry.Entry.{Entry}
-use Rattle.mn_world.specs.Run.{entries_of}
+use Rattle.mn_runs.specs.declared.entry.Entry.{Entry}
+use Rattle.mn_runs.specs.Protocol.{entries_of, start_of}
 use Rattle.mn_cell.specs.Calls.{HasLengths, IsLarge, entry_at, what_said}
 use Rattle.mn_cell.specs.Promises.{HasRoomForStep, IsOwed, IsOwedAt, IsOwing, decided_by, decided_in}
 use Rattle.mn_cell.specs.Station.{HasMadeEntries, list_by, list_in}
-use Rattle.mn_world.specs.Protocol.{start_of}
 use Rattle.mn_cell.proofs.Fills.{fit_lengths}
 use Rattle.mn_cell.proofs.Made.{base_is, keeps_stop, made_called, made_unchanged}
 use Rattle.mn_cell.proofs.OneLog.{owed_here}

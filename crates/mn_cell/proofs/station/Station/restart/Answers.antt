@@ -1,11 +1,10 @@
 use Rattle.std.proofs.Common.{rules, ◌≡◌, ℕ, true, List, ◌∷◌, sym, ap, ◌∙◌, subst}
-use Rattle.mn_world.specs.declared.entry.Entry.{Entry}
-use Rattle.mn_world.specs.declared.entry.What.TheVariants.{Restarted}
-use Rattle.mn_world.specs.Run.{entries_of}
+use Rattle.mn_runs.specs.declared.entry.Entry.{Entry}
+use Rattle.mn_runs.specs.declared.entry.What.TheVariants.{Restarted}
+use Rattle.mn_runs.specs.Protocol.{entries_of, start_of}
 use Rattle.mn_cell.specs.Calls.{entry_at}
 use Rattle.mn_cell.specs.Promises.{IsOwing}
 use Rattle.mn_cell.specs.Station.{HasMadeEntries, list_by, list_in}
-use Rattle.mn_world.specs.Protocol.{start_of}
 use Rattle.mn_cell.proofs.Made.{base_is, made_failed, made_restarted}
 use Rattle.mn_cell.proofs.Owed.{newest_entry, owing_stays}
 use Rattle.mn_cell.proofs.Passed.{held_in, list_of_pass}

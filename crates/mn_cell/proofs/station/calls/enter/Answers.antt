@@ -3,7 +3,7 @@ use Rattle.mn_base.specs.declared.ids.ClientNo.{ClientNo}
 use Rattle.mn_actors.specs.declared.actor.Actor.TheVariants.{Client}
 use Rattle.mn_actors.specs.Lists.{HasRoom}
 use Rattle.mn_actors.specs.Sight.{view_of}
-use Rattle.mn_world.specs.declared.entry.Entry.{Entry}
+use Rattle.mn_runs.specs.declared.entry.Entry.{Entry}
 use Rattle.mn_cell.specs.Promises.{IsOwing}
 use Rattle.mn_cell.specs.Station.{list_in}
 use Rattle.mn_cell.proofs.Passed.{grown_in, held_in}

@@ -2,8 +2,8 @@ use Rattle.std.proofs.Common.{Bool, List, slice_get, inl, inr, refl, ap, ◌∙�
 use Rattle.std.specs.Prelude.{⊤}
 use Rattle.mn_actors.specs.Sight.{view_of}
 use Rattle.mn_cell.specs.Calls.{EndsList, entry_at}
-use Rattle.mn_world.specs.declared.entry.What.TheVariants.{Restarted}
-use Rattle.mn_world.specs.Lists.{ClientState}
+use Rattle.mn_runs.specs.declared.entry.What.TheVariants.{Restarted}
+use Rattle.mn_runs.specs.Lists.{ClientState}
 use Rattle.mn_callers.specs.Hands.{hand_of}
 use Rattle.mn_callers.proofs.Hands.{moves_by_one, moves_still}
 use Rattle.mn_callers.proofs.Turns.{by_option}

@@ -1,6 +1,6 @@
 use Rattle.std.proofs.Common.{ℕ, List, Option, ap, reverse, sym, ◌∙◌}
 use Rattle.std.specs.Option.{option_map}
-use Rattle.mn_world.specs.Shown.{seen_at}
+use Rattle.mn_runs.specs.Seen.{seen_at}
 use Rattle.mn_hist.specs.History.{CallerState, Noting, notes_in, with_seen}
 use Rattle.mn_hist.specs.Plans.{begun_of}
 use Rattle.mn_hist.proofs.Notings.{catalog_same, noted_pushed}

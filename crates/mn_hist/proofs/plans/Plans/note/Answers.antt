@@ -1,7 +1,7 @@
 use Rattle.std.proofs.Common.{Some, cond, ap, sym, ◌∙◌}
 use Rattle.std.specs.HashMap.{get}
-use Rattle.mn_world.specs.declared.flat.IdKey.{IdKey}
-use Rattle.mn_world.specs.Standing.{id_key, keys_same}
+use Rattle.mn_commits.specs.declared.flat.IdKey.{IdKey}
+use Rattle.mn_commits.specs.Standing.{id_key, keys_same}
 use Rattle.mn_hist.specs.declared.plans.Plan.{Plan}
 use Rattle.mn_hist.proofs.Planned.{other_noted}
 use Rattle.mn_hist.proofs.plans.Plans.note.Goals as goal

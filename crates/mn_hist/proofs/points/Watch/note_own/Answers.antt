@@ -4,7 +4,7 @@ use Rattle.std.specs.Vec.{with_item, with_items}
 use Rattle.std.proofs.lemmas.List.{with_items_is}
 use Rattle.mn_base.specs.Ids.{client_same, tid_same}
 use Rattle.mn_base.specs.declared.ids.Tid.{Tid}
-use Rattle.mn_world.specs.Calls.{client_entries}
+use Rattle.mn_runs.specs.Calls.{client_entries}
 use Rattle.mn_hist.specs.declared.points.Step.{Step}
 use Rattle.mn_hist.specs.declared.points.Watch.{Watch}
 use Rattle.mn_hist.specs.Points.{with_met}

@@ -8,7 +8,7 @@ use Rattle.mn_work.specs.declared.next.Next.{Next}
 use Rattle.mn_work.specs.Places.{place_of}
 use Rattle.mn_proxy.specs.Turns.{TurnAgrees}
 use Rattle.mn_work.specs.Works.{WantsNext}
-use Rattle.mn_world.specs.Places.{Place as Range}
+use Rattle.mn_runs.specs.Seen.{Place as Range}
 use Rattle.mn_proxy.proofs.Wanting.{answers_so, asks_catalog, asks_count, asks_page, counts_place}
 use Rattle.mn_proxy.proofs.Wanting.{answers_self, has_failed, kept_idle, kept_self, makes_plan, own_self, own_self_last}
 use Rattle.mn_work.proofs.Works.{catalog_asked, count_asked, page_asked, plan_asked, retry_after_wants, starts_right}

@@ -1,7 +1,7 @@
 -- Node 0, which has the catalog, is one of the nodes.
 use Rattle.mn_proxy.specs.Turn.{turned}
 use Rattle.std.proofs.Common.{◌<◌, ℕ, ap, subst, sym}
-use Rattle.mn_world.specs.Places.{Place}
+use Rattle.mn_runs.specs.Seen.{Place}
 use Rattle.std.specs.Prelude.{IfOk}
 use Rattle.mn_proxy.specs.declared.errand.Purpose.TheVariants as by
 use Rattle.mn_proxy.specs.Kept.{Issues}

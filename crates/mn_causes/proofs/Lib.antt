@@ -1,0 +1,16 @@
+pub mod LastTry
+pub mod Refused
+pub mod Heard
+pub mod Own
+pub mod Forces
+pub mod Another
+pub mod Held
+pub mod Forced
+pub mod Moved
+pub mod Faults
+pub mod Paths
+pub mod Undisturbed
+pub mod OwnCommits
+pub mod Sure
+pub mod Unlocked
+pub mod Unhindered

@@ -1,0 +1,16 @@
+pub mod Spaces
+pub mod Laying
+pub mod Sizes
+pub mod Compares
+pub mod Precedes
+pub mod Kept
+pub mod PutInPlace
+pub mod SplitRoot
+pub mod HoldsOne
+pub mod Entries
+pub mod Told
+pub mod NextSlots
+pub mod Grown
+pub mod Written
+pub mod WrittenVersions
+pub mod Catalogs

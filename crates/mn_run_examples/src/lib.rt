@@ -1,0 +1,2 @@
+//! Worked examples of the definitions of runs, by computation: proofs alone.
+#![tactic(auto)]

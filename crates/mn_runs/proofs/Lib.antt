@@ -1,0 +1,11 @@
+pub mod Logs
+pub mod Same
+pub mod Steps
+pub mod NewCalls
+pub mod Records
+pub mod Spaces
+pub mod Bases
+pub mod Alone
+pub mod Seen
+pub mod Since
+pub mod Prefixes

@@ -1,0 +1,9 @@
+pub mod Lists
+pub mod Log
+pub mod Calls
+pub mod Nodes
+pub mod Clients
+pub mod Protocol
+pub mod Commits
+pub mod Sound
+pub mod Seen

@@ -1,0 +1,4 @@
+pub mod History
+pub mod Meaning
+pub mod Settled
+pub mod OneHistory

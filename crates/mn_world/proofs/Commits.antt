@@ -1,5 +1,0 @@
--- What is committed at most once, and what is never.
-pub mod Told
-pub mod Never
-pub mod Once
-pub mod Unkept

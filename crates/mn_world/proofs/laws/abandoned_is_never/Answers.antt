@@ -1,5 +1,0 @@
-use Rattle.mn_world.proofs.Commits.Never.{abandoned_is_never}
-use Rattle.mn_world.proofs.laws.abandoned_is_never.Goals as goal
-
-pub returns : goal.returns
-returns c = abandoned_is_never

@@ -1,5 +1,0 @@
-use Rattle.mn_world.proofs.Bytes.Spaces.{commits_are_flat}
-use Rattle.mn_world.proofs.laws.commits_are_flat.Goals as goal
-
-pub returns : goal.returns
-returns c = commits_are_flat

@@ -1,5 +1,0 @@
-use Rattle.mn_world.proofs.Commits.Once.{commits_once}
-use Rattle.mn_world.proofs.laws.commits_once.Goals as goal
-
-pub returns : goal.returns
-returns c = commits_once

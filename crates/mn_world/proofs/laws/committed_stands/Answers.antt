@@ -1,5 +1,0 @@
-use Rattle.mn_world.proofs.Meaning.Stands.{committed_stands}
-use Rattle.mn_world.proofs.laws.committed_stands.Goals as goal
-
-pub returns : goal.returns
-returns c = committed_stands

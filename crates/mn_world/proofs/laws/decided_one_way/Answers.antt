@@ -1,5 +1,0 @@
-use Rattle.mn_world.proofs.Votes.Preserved.{decided_one_way}
-use Rattle.mn_world.proofs.laws.decided_one_way.Goals as goal
-
-pub returns : goal.returns
-returns c = decided_one_way

@@ -1,5 +1,0 @@
-use Rattle.mn_world.proofs.Bytes.Reads.{execs_are_flat}
-use Rattle.mn_world.proofs.laws.execs_are_flat.Goals as goal
-
-pub returns : goal.returns
-returns c = execs_are_flat

@@ -1,5 +1,0 @@
-use Rattle.mn_world.proofs.Meaning.Forced.{forced_by_other}
-use Rattle.mn_world.proofs.laws.forced_by_other.Goals as goal
-
-pub returns : goal.returns
-returns c = forced_by_other

@@ -1,5 +1,0 @@
-use Rattle.mn_world.proofs.Meaning.One.{history_is_one}
-use Rattle.mn_world.proofs.laws.history_is_one.Goals as goal
-
-pub returns : goal.returns
-returns c = history_is_one

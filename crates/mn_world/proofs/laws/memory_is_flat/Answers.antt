@@ -1,5 +1,0 @@
-use Rattle.mn_world.proofs.Bytes.Spaces.{memory_is_flat}
-use Rattle.mn_world.proofs.laws.memory_is_flat.Goals as goal
-
-pub returns : goal.returns
-returns c = memory_is_flat

@@ -1,5 +1,0 @@
-use Rattle.mn_world.proofs.Votes.Records.{no_is_not_committed}
-use Rattle.mn_world.proofs.laws.no_is_not_committed.Goals as goal
-
-pub returns : goal.returns
-returns c = no_is_not_committed

@@ -1,5 +1,0 @@
-use Rattle.mn_world.proofs.Plans.Told.{numbers_go_on}
-use Rattle.mn_world.proofs.laws.numbers_go_on.Goals as goal
-
-pub returns : goal.returns
-returns c = numbers_go_on

@@ -1,5 +1,0 @@
-use Rattle.mn_world.proofs.Meaning.Once.{one_plan_each}
-use Rattle.mn_world.proofs.laws.one_plan_each.Goals as goal
-
-pub returns : goal.returns
-returns c = one_plan_each

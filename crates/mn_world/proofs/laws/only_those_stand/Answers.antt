@@ -1,5 +1,0 @@
-use Rattle.mn_world.proofs.Meaning.Between.{only_those_stand}
-use Rattle.mn_world.proofs.laws.only_those_stand.Goals as goal
-
-pub returns : goal.returns
-returns c = only_those_stand

@@ -1,5 +1,0 @@
-use Rattle.mn_world.proofs.Meaning.Paths.{path_by_other}
-use Rattle.mn_world.proofs.laws.path_by_other.Goals as goal
-
-pub returns : goal.returns
-returns c = path_by_other

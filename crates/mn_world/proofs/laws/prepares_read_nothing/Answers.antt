@@ -1,5 +1,0 @@
-use Rattle.mn_world.proofs.Bytes.Prepares.{prepares_read_nothing}
-use Rattle.mn_world.proofs.laws.prepares_read_nothing.Goals as goal
-
-pub returns : goal.returns
-returns c = prepares_read_nothing

@@ -1,5 +1,0 @@
-use Rattle.mn_world.proofs.Plans.PutInPlace.{put_is_planned}
-use Rattle.mn_world.proofs.laws.put_is_planned.Goals as goal
-
-pub returns : goal.returns
-returns c = put_is_planned

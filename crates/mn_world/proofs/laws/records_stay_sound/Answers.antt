@@ -1,5 +1,0 @@
-use Rattle.mn_world.proofs.Votes.Records.{records_stay_sound}
-use Rattle.mn_world.proofs.laws.records_stay_sound.Goals as goal
-
-pub returns : goal.returns
-returns c = records_stay_sound

@@ -1,5 +1,0 @@
-use Rattle.mn_world.proofs.Commits.Never.{refused_is_never}
-use Rattle.mn_world.proofs.laws.refused_is_never.Goals as goal
-
-pub returns : goal.returns
-returns c = refused_is_never

@@ -1,5 +1,0 @@
-use Rattle.mn_world.proofs.Meaning.Together.{runs_are_one_history}
-use Rattle.mn_world.proofs.laws.runs_are_one_history.Goals as goal
-
-pub returns : goal.returns
-returns c = runs_are_one_history

@@ -1,5 +1,0 @@
-use Rattle.mn_world.proofs.Reading.MakeRun.{runs_follow_protocol}
-use Rattle.mn_world.proofs.laws.runs_follow_protocol.Goals as goal
-
-pub returns : goal.returns
-returns c = runs_follow_protocol

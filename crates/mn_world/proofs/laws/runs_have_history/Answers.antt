@@ -1,5 +1,0 @@
-use Rattle.mn_world.proofs.Meaning.Together.{runs_have_history}
-use Rattle.mn_world.proofs.laws.runs_have_history.Goals as goal
-
-pub returns : goal.returns
-returns c = runs_have_history

@@ -1,5 +1,0 @@
-use Rattle.mn_world.proofs.Bytes.Seen.{seen_is_flat}
-use Rattle.mn_world.proofs.laws.seen_is_flat.Goals as goal
-
-pub returns : goal.returns
-returns c = seen_is_flat

@@ -1,5 +1,0 @@
-use Rattle.mn_world.proofs.Plans.SplitRoot.{split_is_planned}
-use Rattle.mn_world.proofs.laws.split_is_planned.Goals as goal
-
-pub returns : goal.returns
-returns c = split_is_planned

@@ -1,5 +1,0 @@
-use Rattle.mn_world.proofs.Meaning.Stops.{stops_leave_opened}
-use Rattle.mn_world.proofs.laws.stops_leave_opened.Goals as goal
-
-pub returns : goal.returns
-returns c = stops_leave_opened

@@ -1,5 +1,0 @@
-use Rattle.mn_world.proofs.Commits.Unkept.{unkept_is_never}
-use Rattle.mn_world.proofs.laws.unkept_is_never.Goals as goal
-
-pub returns : goal.returns
-returns c = unkept_is_never

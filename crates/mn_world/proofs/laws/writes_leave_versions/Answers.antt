@@ -1,5 +1,0 @@
-use Rattle.mn_world.proofs.Plans.WrittenVersions.{writes_leave_versions}
-use Rattle.mn_world.proofs.laws.writes_leave_versions.Goals as goal
-
-pub returns : goal.returns
-returns c = writes_leave_versions

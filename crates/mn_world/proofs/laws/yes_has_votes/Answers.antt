@@ -1,5 +1,0 @@
-use Rattle.mn_world.proofs.Votes.Records.{yes_has_votes}
-use Rattle.mn_world.proofs.laws.yes_has_votes.Goals as goal
-
-pub returns : goal.returns
-returns c = yes_has_votes
