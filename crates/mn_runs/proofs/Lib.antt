@@ -3,7 +3,7 @@ pub mod Same
 pub mod Steps
 pub mod NewCalls
 pub mod Records
-pub mod Spaces
+pub mod Overwriting
 pub mod Bases
 pub mod Alone
 pub mod Seen

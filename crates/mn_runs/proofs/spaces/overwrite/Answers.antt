@@ -1,5 +1,5 @@
 use Rattle.std.proofs.Common.{◌∙◌}
-use Rattle.mn_runs.proofs.Spaces.{no_byte, one_more}
+use Rattle.mn_runs.proofs.Overwriting.{no_byte, one_more}
 use Rattle.mn_runs.proofs.spaces.overwrite.Goals as goal
 
 pub loop-i-init : goal.loop-i-init
