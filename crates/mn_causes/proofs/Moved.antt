@@ -1,6 +1,6 @@
 -- Bytes that an operation had read and did not find again were changed by another operation's plan,
 -- within one try.
-use Rattle.std.proofs.Common.{◌≡◌, ℕ, zero, suc, ◌+◌, ◌-◌, ◌≤◌, ◌⊎◌, inl, inr, Bool, true, false, not, ◌&&◌, List, [], ◌∷◌, ◌++◌, length, take, drop, Option, Some, None, refl, subst, sym, ap, ◌∙◌, arith, if◌then◌else◌, slice_get, Contains}
+use Rattle.std.proofs.Common.{◌≡◌, ℕ, zero, suc, ◌+◌, ◌*◌, ◌-◌, ◌<◌, ◌≤◌, ◌⊎◌, inl, inr, Bool, true, false, not, ◌&&◌, List, [], ◌∷◌, ◌++◌, length, take, drop, Option, Some, None, refl, subst, sym, ap, ◌∙◌, arith, if◌then◌else◌, slice_get, Contains}
 use Rattle.std.specs.Prelude.{bytes_eq}
 use Rattle.std.specs.List.{list_all}
 use Rattle.std.proofs.lemmas.List.{append_assoc, length-append}
@@ -31,8 +31,10 @@ use Rattle.mn_runs.specs.Calls.{Call, Issued, calls_of, client_entries}
 use Rattle.mn_runs.specs.Clients.{Sends}
 use Rattle.mn_runs.specs.Commits.{committed_by}
 use Rattle.mn_runs.specs.Seen.{Seen, seen_in, seen_at}
-use Rattle.mn_law.specs.Answers.{RefusedAs, DiffersAs, ShowsBytes, part_compares, is_refusal, none_refused}
-use Rattle.mn_runs.specs.Protocol.{Start, FollowsProtocol, AllowedBy, base_at, records_of}
+use Rattle.mn_page.specs.Holds.{Holds}
+use Rattle.mn_law.specs.Places.{entry_place, catalog_node, content_in}
+use Rattle.mn_law.specs.Answers.{RefusedAs, DiffersAs, ShowsBytes, ShowsExpected, part_compares, is_refusal, none_refused}
+use Rattle.mn_runs.specs.Protocol.{Start, FollowsProtocol, AllowedAt, AllowedBy, base_at, records_of}
 use Rattle.mn_law.specs.Run.{IsRun}
 use Rattle.mn_votes.specs.Laws.{StartsSound}
 use Rattle.mn_commits.specs.Laws.{part_of_request}
@@ -52,6 +54,11 @@ use Rattle.mn_commits.proofs.Bytes.Spaces.{whole_run}
 use Rattle.mn_commits.proofs.Bytes.Seen.{StandsIn, here_seen}
 use Rattle.mn_runs.proofs.Seen.{nothing}
 use Rattle.mn_runs.proofs.Prefixes.{follows_before}
+use Rattle.mn_plans.proofs.AlikeEntries.{entries_alike}
+use Rattle.mn_serial.proofs.Settled.Agree.{front_of_content}
+use Rattle.mn_serial.proofs.Meaning.Kept.{some_store}
+use Rattle.mn_serial.proofs.Meaning.Legal.{known_run}
+use Rattle.mn_serial.proofs.Meaning.Exists.{history_exists}
 use Rattle.mn_serial.proofs.Meaning.Prefixes.{older_run}
 use Rattle.mn_serial.proofs.Meaning.Effects.{flat_none, flat_read, no_plan_at_read}
 use Rattle.mn_serial.proofs.Meaning.Once.{others_commit_nothing}
@@ -194,7 +201,7 @@ record Differed (seens : List Seen) (m n : NodeNo) (request : Request) (reply : 
   pub asked : part_of_request request ≡ Some part
   pub reply_is : reply ≡ Say.BadCompare item found
   pub there : slice_get (part_compares part) item ≡ Some (begins, expected)
-  pub shows : ShowsBytes seens n begins expected
+  pub shows : ShowsExpected seens n begins expected
 
 moved_parts : (n m : NodeNo) (a b : ℕ) (x y s t : List ℕ) → Moved n a x s ≡ Moved m b y t
     → (m ≡ n) × (b ≡ a) × (y ≡ x) × (t ≡ s)
@@ -211,7 +218,7 @@ differed seens m n request part item begins expected found was asked (at, bytes,
       asked = asked;
       reply_is = ap (λ (x : List ℕ). Say.BadCompare item x) parts.3;
       there = there ∙ (λ i. Some (parts.1 i, parts.2 i));
-      shows = subst (λ (k : NodeNo). ShowsBytes seens k begins expected) parts.0 (subst (λ (b : ℕ). ShowsBytes seens m b expected) parts.1 (subst (λ (x : List ℕ). ShowsBytes seens m at x) parts.2 shows));
+      shows = subst (λ (k : NodeNo). ShowsExpected seens k begins expected) parts.0 (subst (λ (b : ℕ). ShowsExpected seens m b expected) parts.1 (subst (λ (x : List ℕ). ShowsExpected seens m at x) parts.2 shows));
     }
 
 moved_refused : (seens : List Seen) (m : NodeNo) (request : Request) (reply : NodeReply) (n : NodeNo) (begins : ℕ) (expected found : List ℕ) → RefusedAs seens m request reply (Moved n begins expected found) → Differed seens m n request reply begins expected found
@@ -220,6 +227,29 @@ moved_refused seens m (Ask.Prepare tid ps part) (Say.BadCompare item was) n begi
 moved_refused seens m (Ask.Exec tid part) (Say.BadCompare item was) n begins expected found is = differed seens m n (Ask.Exec tid part) part item begins expected found was refl is
 moved_refused seens m (Ask.Prepare tid ps part) Say.BadForced n begins expected found is = absurd cc
 moved_refused seens m request reply n begins expected found is = absurd is
+
+-- on which node the expected bytes were read: on the compared one, or, the number of an entry, on the node from which the
+-- catalog is read
+abbrev ReadOn : NodeNo → NodeNo → ℕ → List ℕ → Type 0
+ReadOn m n begins expected = (m ≡ n) ⊎ ((m ≡ catalog_node) × ((v : ℕ) × (v < 64) × (begins ≡ 64 + 64 * v) × (length expected ≡ 8)))
+
+read_on : (seens : List Seen) (n : NodeNo) (begins : ℕ) (expected : List ℕ) → ShowsExpected seens n begins expected → (m : NodeNo) × (ReadOn m n begins expected × ShowsBytes seens m begins expected)
+read_on seens n begins expected (inl shows) = (n, (inl refl, shows))
+read_on seens n begins expected (inr (v, few, at, long, shows)) = (catalog_node, (inr (refl, (v, few, at, long)), shows))
+
+shown_on : (seens : List Seen) (m n : NodeNo) (begins : ℕ) (expected : List ℕ) → ReadOn m n begins expected → ShowsBytes seens m begins expected → ShowsExpected seens n begins expected
+shown_on seens m n begins expected (inl same) shows = inl (subst (λ (k : NodeNo). ShowsBytes seens k begins expected) same shows)
+shown_on seens m n begins expected (inr (first, (v, few, at, long))) shows = inr (v, few, at, long, subst (λ (k : NodeNo). ShowsBytes seens k begins expected) first shows)
+
+-- in a memory that holds a store the compared node has them then too
+also_there : (memory : List (List ℕ)) (store : Store) → Holds memory store → (m n : NodeNo) (begins : ℕ) (expected : List ℕ) → n.0 < length memory → ReadOn m n begins expected
+    → bytes_in (space_in memory m) begins (length expected) ≡ expected → bytes_in (space_in memory n) begins (length expected) ≡ expected
+also_there memory store holds m n begins expected in' (inl same) stood = subst (λ (k : NodeNo). bytes_in (space_in memory k) begins (length expected) ≡ expected) same stood
+also_there memory store holds m n begins expected in' (inr (first, (v, few, at, long))) stood =
+    let front : (k : NodeNo) → take 8 (content_in (space_in memory k) (entry_place k v)) ≡ bytes_in (space_in memory k) (64 + 64 * v) 8 = λ k. front_of_content (space_in memory k) (entry_place k v) (inr (k, v, few, refl)) in
+    let alike : bytes_in (space_in memory n) (64 + 64 * v) 8 ≡ bytes_in (space_in memory catalog_node) (64 + 64 * v) 8 = sym (front n) ∙ (ap (take 8) (entries_alike memory store holds n v in' few) ∙ front catalog_node) in
+    let here : (k : NodeNo) → bytes_in (space_in memory k) begins (length expected) ≡ bytes_in (space_in memory k) (64 + 64 * v) 8 = λ k. ap (λ (b : ℕ). bytes_in (space_in memory k) b (length expected)) at ∙ ap (bytes_in (space_in memory k) (64 + 64 * v)) long in
+    here n ∙ (alike ∙ (sym (here catalog_node) ∙ (ap (λ (k : NodeNo). bytes_in (space_in memory k) begins (length expected)) (sym first) ∙ stood)))
 
 -- the entry that brought a read
 pub record BroughtIn (es : List Entry) (seen : Seen) : Type 0 where
@@ -337,11 +367,14 @@ moved_by_other start store past place e c number n begins expected found h stand
     d = moved_refused (seen_in r.try) r.node r.request r.reply n begins expected found r.refused
 
     -- the read that showed the expected bytes
-    seen : Seen
-    seen = d.shows.0
+    on : (m : NodeNo) × (ReadOn m n begins expected × ShowsBytes (seen_in r.try) m begins expected)
+    on = read_on (seen_in r.try) n begins expected d.shows
 
-    y : BroughtIn r.try d.shows.0
-    y = brought r.try d.shows.0 d.shows.1
+    shows : ShowsBytes (seen_in r.try) on.0 begins expected
+    shows = on.1.1
+
+    y : BroughtIn r.try shows.0
+    y = brought r.try shows.0 shows.1
 
     z : Deeper t [] r.entry r.try r.there y.newer y.entry y.older
     z = deeper t [] r.entry r.try r.there y.newer y.entry y.older y.split
@@ -374,15 +407,33 @@ moved_by_other start store past place e c number n begins expected found h stand
     to_read = follows_before start r.there.before z.between (y.entry ∷ z.is.before) z.split to_call.0
 
     -- where it was read, the expected bytes stood in the flat memory
+    stood_where_read : bytes_in (space_in (flat start z.is.before) on.0) begins (length expected) ≡ expected
+    stood_where_read =
+        let stands_there : StandsIn (flat start z.is.before) shows.0 =
+        here_seen start z.is.before y.entry.client y.entry.node y.entry.what shows.0 (whole_run start z.is.before h.opened.sound to_read.0) to_read.1 y.brought in
+        let at_node : shows.0.bytes ≡ bytes_in (space_in (flat start z.is.before) on.0) shows.0.place.start shows.0.place.length =
+        subst (λ (k : NodeNo). shows.0.bytes ≡ bytes_in (space_in (flat start z.is.before) k) shows.0.place.start shows.0.place.length) shows.2 stands_there in
+        let inner : bytes_in (bytes_in (space_in (flat start z.is.before) on.0) shows.0.place.start shows.0.place.length) (begins - shows.0.place.start) (length expected) ≡ expected =
+        ap (λ (b : List ℕ). bytes_in b (begins - shows.0.place.start) (length expected)) (sym at_node) ∙ shows.4 in
+        sym (range_of_range (space_in (flat start z.is.before) on.0) shows.0.place.start shows.0.place.length begins (length expected) shows.3 (ap (λ (b : List ℕ). length b) inner)) ∙ inner
+
+    some_holds : (s : Store) × Holds (flat start z.is.before) s
+    some_holds =
+        let history = history_exists start store past h in
+        let known = known_run start store past history.0 h.opened.sound h.opened h.run history.1 in
+        some_store start store past history.0 known (((t.later ++ (t.answer ∷ r.there.later)) ++ (r.entry ∷ z.between)) ++ (y.entry ∷ [])) z.is.before
+        (split
+        ∙ (ap (λ (es : List Entry). (t.later ++ (t.answer ∷ r.there.later)) ++ r.entry ∷ es) z.split
+        ∙ (sym (append_assoc (t.later ++ (t.answer ∷ r.there.later)) (r.entry ∷ z.between) (y.entry ∷ z.is.before))
+        ∙ sym (append_assoc ((t.later ++ (t.answer ∷ r.there.later)) ++ (r.entry ∷ z.between)) (y.entry ∷ []) z.is.before))))
+
+    in_memory : n.0 < length (flat start z.is.before)
+    in_memory =
+        let allowed : AllowedAt start r.there.before (Some n) r.entry.what = subst (λ (o : Option NodeNo). AllowedAt start r.there.before o r.entry.what) node to_call.1.at_node in
+        subst (λ k. n.0 < k) (sym (whole_run start z.is.before h.opened.sound to_read.0).even.spaces) allowed.0
+
     stood : bytes_in (space_in (flat start z.is.before) n) begins (length expected) ≡ expected
-    stood =
-        let stands_there : StandsIn (flat start z.is.before) d.shows.0 =
-        here_seen start z.is.before y.entry.client y.entry.node y.entry.what d.shows.0 (whole_run start z.is.before h.opened.sound to_read.0) to_read.1 y.brought in
-        let at_node : d.shows.0.bytes ≡ bytes_in (space_in (flat start z.is.before) n) d.shows.0.place.start d.shows.0.place.length =
-        subst (λ (k : NodeNo). d.shows.0.bytes ≡ bytes_in (space_in (flat start z.is.before) k) d.shows.0.place.start d.shows.0.place.length) d.shows.2 stands_there in
-        let inner : bytes_in (bytes_in (space_in (flat start z.is.before) n) d.shows.0.place.start d.shows.0.place.length) (begins - d.shows.0.place.start) (length expected) ≡ expected =
-        ap (λ (b : List ℕ). bytes_in b (begins - d.shows.0.place.start) (length expected)) (sym at_node) ∙ d.shows.4 in
-        sym (range_of_range (space_in (flat start z.is.before) n) d.shows.0.place.start d.shows.0.place.length begins (length expected) d.shows.3 (ap (λ (b : List ℕ). length b) inner)) ∙ inner
+    stood = also_there (flat start z.is.before) some_holds.0 some_holds.1 on.0 n begins expected in_memory on.1.0 stood_where_read
 
     sends : Sends (client_entries c r.there.before) (Some n) r.request
     sends =
@@ -412,7 +463,7 @@ moved_by_other start store past place e c number n begins expected found h stand
         → ⊥
     unchanged same =
         let memory : flat start r.there.before ≡ flat start z.is.before =
-        ap (flat start) z.split ∙ (same ∙ read_stays start z.is.before y.entry d.shows.0 h.opened.sound to_read y.brought) in
+        ap (flat start) z.split ∙ (same ∙ read_stays start z.is.before y.entry shows.0 h.opened.sound to_read y.brought) in
         let found_is : found ≡ expected =
         sym differ.0 ∙ (ap (λ (mem : List (List ℕ)). bytes_in (space_in mem n) begins (length expected)) memory ∙ stood) in
         clash (bytes_eq found expected) (ap (λ (b : List ℕ). bytes_eq b expected) found_is ∙ bytes_eq-refl expected) differ.1
@@ -439,7 +490,7 @@ moved_by_other start store past place e c number n begins expected found h stand
           read = length z.is.before;
           reader = y.entry;
           reads = as_in_last t ([] ++ r.entry ∷ y.newer) y.entry y.older z.is;
-          shows = (d.shows.0, y.brought, d.shows.2, d.shows.3, d.shows.4);
+          shows = shown_on (seen_at y.entry) on.0 n begins expected on.1.0 (shows.0, y.brought, shows.2, shows.3, shows.4);
           commit = length (co.older ++ y.entry ∷ z.is.before);
           other = commits_other start store past place e c number (Moved n begins expected found) h stands answers (t.later ++ (t.answer ∷ r.there.later)) r.entry r.there.before split co.newer co.entry
               (co.older ++ y.entry ∷ z.is.before) co.issued inner co.commits co.not_read;

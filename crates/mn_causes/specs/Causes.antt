@@ -27,7 +27,7 @@ use Rattle.mn_runs.specs.Calls.{call_in, is_try, is_prepare, is_decide, is_down_
 use Rattle.mn_runs.specs.Calls.{was_told, was_decided, client_entries, issues_of, since_begin}
 use Rattle.mn_runs.specs.Calls.{under_way}
 use Rattle.mn_runs.specs.Seen.{seen_at, seen_in}
-use Rattle.mn_law.specs.Answers.{FailedTries, MeetsFault, ShowsBytes, nodes_of, part_compares}
+use Rattle.mn_law.specs.Answers.{FailedTries, MeetsFault, ShowsExpected, nodes_of, part_compares}
 use Rattle.mn_runs.specs.Protocol.{Start, run_number, records_of}
 use Rattle.mn_commits.specs.Laws.{part_of_request}
 use Rattle.mn_serial.specs.Meaning.{OpenedRun, StandsAt, AnswersOp, CommitsPlanAt}
@@ -222,7 +222,7 @@ pub record WasMoved (past : List Entry) (c : ClientNo) (number place : ℕ) (n :
   pub read : ℕ
   pub reader : Entry
   pub reads : IsInLast tries read reader
-  pub shows : ShowsBytes (seen_at reader) n begins expected
+  pub shows : ShowsExpected (seen_at reader) n begins expected
   -- the other operation
   pub commit : ℕ
   pub other : CommitsOther past c number commit

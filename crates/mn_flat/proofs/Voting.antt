@@ -1,9 +1,9 @@
 -- The greater numbers of what is held, as they are computed and as they are said.
-use Rattle.std.proofs.Common.{◌≡◌, ◌<◌, ◌+◌, ◌⊎◌, inl, inr, ℕ, zero, suc, Bool, true, false, not, ◌&&◌, ◌||◌, List, [], ◌∷◌, length, map, reverse, refl, ap, sym, subst, ◌∙◌, arith, Contains, if◌then◌else◌}
-use Rattle.std.specs.Prelude.{MatchBool, nat_lt, nat_eq, IsPermutation}
+use Rattle.std.proofs.Common.{◌≡◌, ◌<◌, ◌⊎◌, inl, inr, ℕ, zero, suc, Bool, true, false, not, ◌&&◌, ◌||◌, List, [], ◌∷◌, length, map, reverse, refl, ap, sym, subst, ◌∙◌, arith, Contains, if◌then◌else◌}
+use Rattle.std.specs.Prelude.{MatchBool, nat_lt, IsPermutation}
 use Rattle.std.specs.List.{list_all, list_any, AllByRecursion}
-use Rattle.std.proofs.lemmas.Bool.Decides.{nat_tests}
 use Rattle.std.proofs.lemmas.List.{reverse-reverse}
+use Rattle.std.proofs.lemmas.List.Elements.{All-contains, All-from_recursion}
 use Rattle.std.proofs.lemmas.List.Sorted.{IsPermutation-reverse, Contains-permutation}
 use Rattle.mn_base.specs.Ids.{node_same, tid_same}
 use Rattle.mn_base.specs.Store.{max_versions}
@@ -15,16 +15,14 @@ use Rattle.mn_mini.specs.declared.part.PartItem.TheVariants.{Compare, Read, Writ
 use Rattle.mn_mini.specs.declared.record.Record.{Record}
 use Rattle.mn_mini.specs.declared.record.Record.TheVariants.{Voted, Executed, Decided, Forced}
 use Rattle.mn_mini.specs.Node.{HeldPart, held_parts, space_of, without_tid}
-use Rattle.mn_mini.proofs.Parts.{same_true}
 use Rattle.mn_page.specs.Base.{base_of}
 use Rattle.mn_page.specs.Space.{catalog_start, entry_size, slots_start, slot_size, max_slots, space_length}
 use Rattle.mn_runs.specs.Seen.{Place}
-use Rattle.mn_law.specs.Places.{IsNumbered, WritesWhole, content_in, number_in, page_place, entry_place, catalog_node}
+use Rattle.mn_law.specs.Places.{IsNumbered, WritesWhole, content_in, number_in, page_place, entry_place}
 use Rattle.mn_runs.specs.Protocol.{start_of, base_at}
 use Rattle.mn_law.specs.Opened.{HeldAreGreater}
 use Rattle.mn_runs.specs.Sound.{is_committed, is_free}
 use Rattle.mn_runs.proofs.Bases.{base_there}
-use Rattle.mn_plans.proofs.Told.{all_there}
 use Rattle.mn_runs.proofs.Same.{tid_same-refl, tid_same-true}
 use Rattle.mn_flat.specs.declared.held.Held.{Held}
 use Rattle.mn_flat.specs.declared.votes.Told.{Told}
@@ -38,72 +36,59 @@ use Rattle.mn_flat.proofs.Telling.{VoteFits, vote_in, commit_of}
 
 -- One item
 
-item_words : (space : List ℕ) (n : NodeNo) (item : PartItem) → item_rises space n item ≡ true → (place : Place) → IsNumbered place → place.node ≡ n → WritesWhole place (λ bytes. number_in (content_in space place) < number_in bytes) item
+item_words : (space : List ℕ) (n : NodeNo) (item : PartItem) → item_rises space item ≡ true → (place : Place) → IsNumbered place → place.node ≡ n → WritesWhole place (λ bytes. number_in (content_in space place) < number_in bytes) item
 item_words space n (Compare start bytes) e place num at = tt
 item_words space n (Read start size) e place num at = tt
 item_words space n (Write start bytes) e place (inl (addr, low, is)) at =
     subst (λ (q : Place). WritesWhole q (λ new. number_in (content_in space q) < number_in new) (Write start bytes)) (sym is)
     (rises_there space addr.node slots_start max_slots slot_size start bytes (both_parts _ _ e).0 addr.slot low)
-item_words space n (Write start bytes) e place (inr (v, low, is)) at = by (or_cases _ _ (both_parts _ _ e).1)
-  where
-    first : n.0 ≡ 0
-    first = sym (ap (λ (m : NodeNo). m.0) at) ∙ ap (λ (q : Place). q.node.0) is
+item_words space n (Write start bytes) e place (inr (m, v, low, is)) at =
+    subst (λ (q : Place). WritesWhole q (λ new. number_in (content_in space q) < number_in new) (Write start bytes)) (sym is)
+    (rises_there space m catalog_start max_versions entry_size start bytes (both_parts _ _ e).1 v low)
 
-    by : (not (nat_eq n.0 0) ≡ true) ⊎ (Rattle.mn_flat.specs.Numbers.rises space catalog_start (catalog_start + Rattle.mn_page.specs.Space.catalog_size) entry_size start bytes ≡ true) → WritesWhole place (λ new. number_in (content_in space place) < number_in new) (Write start bytes)
-    by (inl none) = let other : nat_eq n.0 0 ≡ false = not_true (nat_eq n.0 0) none in absurd (grind (arith, nat_tests))
-    by (inr some) =
-        subst (λ (q : Place). WritesWhole q (λ new. number_in (content_in space q) < number_in new) (Write start bytes)) (sym is)
-        (rises_there space catalog_node catalog_start max_versions entry_size start bytes some v low)
-
-words_item : (space : List ℕ) (n : NodeNo) (item : PartItem) → length space ≡ space_length → ((place : Place) → IsNumbered place → place.node ≡ n → WritesWhole place (λ bytes. number_in (content_in space place) < number_in bytes) item) → item_rises space n item ≡ true
+words_item : (space : List ℕ) (n : NodeNo) (item : PartItem) → length space ≡ space_length → ((place : Place) → IsNumbered place → place.node ≡ n → WritesWhole place (λ bytes. number_in (content_in space place) < number_in bytes) item) → item_rises space item ≡ true
 words_item space n (Compare start bytes) whole f = refl
 words_item space n (Read start size) whole f = refl
 words_item space n (Write start bytes) whole f =
     both_true _ _
     (rises_each space n slots_start max_slots slot_size start bytes (omega arith) (omega arith) (omega (arith, whole)) (λ k low. f (page_place (record { node = n; slot = k })) (inl (record { node = n; slot = k }, low, refl)) refl))
-    (by (nat_eq n.0 0) refl)
-  where
-    by : (b : Bool) → nat_eq n.0 0 ≡ b → (not (nat_eq n.0 0) || Rattle.mn_flat.specs.Numbers.rises space catalog_start (catalog_start + Rattle.mn_page.specs.Space.catalog_size) entry_size start bytes) ≡ true
-    by false e = or_left _ _ (ap not e)
-    by true e =
-        let same : n ≡ catalog_node = same_true n catalog_node e in
-        or_right _ _ (rises_each space n catalog_start max_versions entry_size start bytes (omega arith) (omega arith) (omega (arith, whole)) (λ k low. f (entry_place n k) (inr (k, low, ap (λ (m : NodeNo). entry_place m k) same)) refl))
+    (rises_each space n catalog_start max_versions entry_size start bytes (omega arith) (omega arith) (omega (arith, whole)) (λ k low. f (entry_place n k) (inr (n, k, low, refl)) refl))
 
 -- One part
 
-part_words : (space : List ℕ) (n : NodeNo) (part : List PartItem) → list_all (item_rises space n) part ≡ true → PartRises n space part
+part_words : (space : List ℕ) (n : NodeNo) (part : List PartItem) → list_all (item_rises space) part ≡ true → PartRises n space part
 part_words space n [] e = λ place num at. tt
 part_words space n (i ∷ part) e = λ place num at. let s = both_parts _ _ e in (item_words space n i s.0 place num at, part_words space n part s.1 place num at)
 
-words_part : (space : List ℕ) (n : NodeNo) (part : List PartItem) → length space ≡ space_length → PartRises n space part → list_all (item_rises space n) part ≡ true
+words_part : (space : List ℕ) (n : NodeNo) (part : List PartItem) → length space ≡ space_length → PartRises n space part → list_all (item_rises space) part ≡ true
 words_part space n [] whole f = refl
 words_part space n (i ∷ part) whole f = both_true _ _ (words_item space n i whole (λ place num at. (f place num at).0)) (words_part space n part whole (λ place num at. (f place num at).1))
 
 -- What is held
 
-abbrev rises_for : List ℕ → NodeNo → Tid → Held → Bool
-rises_for space n tid h = not (tid_same h.tid tid) || list_all (item_rises space n) h.part.now
+abbrev rises_for : List ℕ → Tid → Held → Bool
+rises_for space tid h = not (tid_same h.tid tid) || list_all (item_rises space) h.part.now
 
 later : {X : Type 0} (y : X) (xs : List X) (x : X) → Contains xs x → Contains (y ∷ xs) x
 later y xs x (k, low, is) = (suc k, omega arith, is)
 
-held_words : (space : List ℕ) (n : NodeNo) (tid : Tid) (held : List Held) → list_all (rises_for space n tid) held ≡ true → (h : HeldPart) → Contains (map held_seen held) h → h.tid ≡ tid → PartRises n space h.part
+held_words : (space : List ℕ) (n : NodeNo) (tid : Tid) (held : List Held) → list_all (rises_for space tid) held ≡ true → (h : HeldPart) → Contains (map held_seen held) h → h.tid ≡ tid → PartRises n space h.part
 held_words space n tid [] e h (k, low, is) same = absurd (omega arith)
 held_words space n tid (x ∷ held) e h (zero, low, is) same = subst (λ (q : HeldPart). PartRises n space q.part) is (by (or_cases _ _ (both_parts _ _ e).0))
   where
     own : tid_same x.tid tid ≡ true
     own = ap (λ (t : Tid). tid_same t tid) (ap (λ (q : HeldPart). q.tid) is ∙ same) ∙ tid_same-refl tid
 
-    by : (not (tid_same x.tid tid) ≡ true) ⊎ (list_all (item_rises space n) x.part.now ≡ true) → PartRises n space x.part.now
+    by : (not (tid_same x.tid tid) ≡ true) ⊎ (list_all (item_rises space) x.part.now ≡ true) → PartRises n space x.part.now
     by (inl other) = absurd (clash _ own (not_true _ other))
     by (inr all) = part_words space n x.part.now all
 held_words space n tid (x ∷ held) e h (suc k, low, is) same = held_words space n tid held (both_parts _ _ e).1 h (k, omega arith, is) same
 
-words_held : (space : List ℕ) (n : NodeNo) (tid : Tid) (held : List Held) → length space ≡ space_length → ((h : HeldPart) → Contains (map held_seen held) h → h.tid ≡ tid → PartRises n space h.part) → list_all (rises_for space n tid) held ≡ true
+words_held : (space : List ℕ) (n : NodeNo) (tid : Tid) (held : List Held) → length space ≡ space_length → ((h : HeldPart) → Contains (map held_seen held) h → h.tid ≡ tid → PartRises n space h.part) → list_all (rises_for space tid) held ≡ true
 words_held space n tid [] whole f = refl
 words_held space n tid (x ∷ held) whole f = both_true _ _ (one (tid_same x.tid tid) refl) (words_held space n tid held whole (λ h there. f h (later (held_seen x) (map held_seen held) h there)))
   where
-    one : (b : Bool) → tid_same x.tid tid ≡ b → (not (tid_same x.tid tid) || list_all (item_rises space n) x.part.now) ≡ true
+    one : (b : Bool) → tid_same x.tid tid ≡ b → (not (tid_same x.tid tid) || list_all (item_rises space) x.part.now) ≡ true
     one true e = or_right _ _ (words_part space n x.part.now whole (f (held_seen x) (0, omega arith, refl) (tid_same-true x.tid tid e)))
     one false e = or_left _ _ (ap not e)
 
@@ -111,7 +96,7 @@ turned : (xs : List HeldPart) → IsPermutation (reverse xs) xs
 turned xs = subst (λ (l : List HeldPart). IsPermutation (reverse xs) l) (reverse-reverse xs) (IsPermutation-reverse (reverse xs))
 
 pub rises_in : (told : Told) (records : List (List Record)) (held : List Held) (space : List ℕ) (n : NodeNo) (tid : Tid) → IsTold told records → IsEnd held space records n → (b : Bool)
-    → b ≡ (not (list_any (says_committed told.nodes.items tid) told.nodes.items) || list_all (λ h. not (tid_same h.tid tid) || list_all (item_rises space n) h.part.now) held)
+    → b ≡ (not (list_any (says_committed told.nodes.items tid) told.nodes.items) || list_all (λ h. not (tid_same h.tid tid) || list_all (item_rises space) h.part.now) held)
     → MatchBool b (HeldRises records n tid) (HeldRises records n tid → ⊥)
 rises_in told records held space n tid is end b e = by b e
   where
@@ -127,20 +112,20 @@ rises_in told records held space n tid is end b e = by b e
     to : (h : HeldPart) → Contains (map held_seen held) h → Contains (held_parts (lists_of records n)) h
     to h there = subst (λ (l : List HeldPart). Contains l h) end.held (Contains-permutation (map held_seen held) (reverse (map held_seen held)) h (IsPermutation-reverse (map held_seen held)) there)
 
-    by : (b : Bool) → b ≡ (not said || list_all (rises_for space n tid) held) → MatchBool b (HeldRises records n tid) (HeldRises records n tid → ⊥)
-    by true e = elim (or_cases (not said) (list_all (rises_for space n tid) held) (sym e)) as (λ _. HeldRises records n tid) [
+    by : (b : Bool) → b ≡ (not said || list_all (rises_for space tid) held) → MatchBool b (HeldRises records n tid) (HeldRises records n tid → ⊥)
+    by true e = elim (or_cases (not said) (list_all (rises_for space tid) held) (sym e)) as (λ _. HeldRises records n tid) [
       | inl none ↦ λ committed. absurd (clash said (meant ∙ committed) (not_true said none))
       | inr all ↦ λ committed h there same. subst (λ (s : List ℕ). PartRises n s h.part) end.space (held_words space n tid held all h (from h there) same)
     ]
     by false e = λ rises.
-        let s = or_split (not said) (list_all (rises_for space n tid) held) (sym e) in
+        let s = or_split (not said) (list_all (rises_for space tid) held) (sym e) in
         let committed : is_committed (length records) (lists_of records) tid ≡ true = sym meant ∙ not_false said s.0 in
-        clash (list_all (rises_for space n tid) held) (words_held space n tid held end.whole (λ h there same. subst (λ (s : List ℕ). PartRises n s h.part) (sym end.space) (rises committed h (to h there) same))) s.1
+        clash (list_all (rises_for space tid) held) (words_held space n tid held end.whole (λ h there same. subst (λ (s : List ℕ). PartRises n s h.part) (sym end.space) (rises committed h (to h there) same))) s.1
 
 pub voted_in : (told : Told) (past : Past) (records : List (List Record)) (older : List Record) (n : NodeNo) (r : Record) (tid : Tid) (ps : List NodeNo) (part : List PartItem) (held : List Held) (space : List ℕ)
     → IsTold told records → IsPast past older → IsEnd held space records n → Contains (all_of records) r → r ≡ Voted tid ps part → (b : Bool)
     → b ≡ ((not (known_at past.known tid).seen && (list_all (λ m. nat_lt m.0 (length told.nodes.items)) ps && (list_any (λ m. node_same m n) ps && (is_free (parts_seen past.held.items) part && not (known_at told.all tid).differ))))
-    && (not (list_any (says_committed told.nodes.items tid) told.nodes.items) || list_all (λ h. not (tid_same h.tid tid) || list_all (item_rises space n) h.part.now) held))
+    && (not (list_any (says_committed told.nodes.items tid) told.nodes.items) || list_all (λ h. not (tid_same h.tid tid) || list_all (item_rises space) h.part.now) held))
     → MatchBool b (KeepsVotes records n older r) (KeepsVotes records n older r → ⊥)
 voted_in told past records older n r tid ps part held space is before end there e b f =
     subst (λ (q : Record). MatchBool b (KeepsVotes records n older q) (KeepsVotes records n older q → ⊥)) (sym e)
@@ -165,9 +150,11 @@ held_rises records greater n low tid = λ committed h there same place num at.
         → AllByRecursion (WritesWhole place (λ bytes. number_in (content_in (space_of (base_of (length records) place.node.0) (lists_of records place.node)) place) < number_in bytes)) h.part
     here place num low h sure there =
         subst (λ (base : List ℕ). AllByRecursion (WritesWhole place (λ bytes. number_in (content_in (space_of base (lists_of records place.node)) place) < number_in bytes)) h.part) (base_there (start_of records) place.node low)
-        (all_there (λ (q : HeldPart). is_committed (length records) (lists_of records) q.tid ≡ true
-        → AllByRecursion (WritesWhole place (λ bytes. number_in (content_in (space_of (base_at (start_of records) place.node) (lists_of records place.node)) place) < number_in bytes)) q.part)
-        (held_parts (lists_of records place.node)) h (greater place num low) there sure)
+        (All-contains each_rises (held_parts (lists_of records place.node)) h (All-from_recursion each_rises (held_parts (lists_of records place.node)) (greater place num low)) there sure)
+      where
+        each_rises : HeldPart → Type 0
+        each_rises q = is_committed (length records) (lists_of records) q.tid ≡ true
+            → AllByRecursion (WritesWhole place (λ bytes. number_in (content_in (space_of (base_at (start_of records) place.node) (lists_of records place.node)) place) < number_in bytes)) q.part
 
 without_in : (t : Tid) (hs : List HeldPart) (h : HeldPart) → Contains (without_tid t hs) h → Contains hs h
 without_in t [] h there = there

@@ -1,8 +1,7 @@
 -- Writes of held parts, at the places of pages and entries of a node: whether each writes the whole
 -- place, with a greater number than the space has there.
-use Rattle.std.specs.Prelude.{ℕ, ◌≡◌, ◌+◌, ◌-◌, ◌%◌, ◌<◌, Bool, true, not, ◌&&◌, ◌||◌, nat_lt}
-use Rattle.std.specs.Prelude.{nat_eq}
-use Rattle.std.specs.Prelude.{nat_le, List, length, take, drop}
+use Rattle.std.specs.Prelude.{ℕ, ◌≡◌, ◌+◌, ◌-◌, ◌%◌, ◌<◌, Bool, true, ◌&&◌, ◌||◌, nat_lt, nat_le}
+use Rattle.std.specs.Prelude.{nat_eq, List, length, take, drop}
 use Rattle.std.specs.List.{AllByRecursion}
 use Rattle.mn_base.specs.declared.ids.NodeNo.{NodeNo}
 use Rattle.mn_mini.specs.declared.part.PartItem.{PartItem}
@@ -31,10 +30,10 @@ rises space first behind size at bytes =
     && (nat_le (at + length bytes) (length space)
     && nat_lt (number_in (take (length bytes) (drop at space))) (number_in bytes)))))
 
-abbrev pub item_rises : List ℕ → NodeNo → PartItem → Bool
-item_rises space n (Compare start bytes) = true
-item_rises space n (Read start length) = true
-item_rises space n (Write start bytes) =
+-- slots and entries are of the same places on each node
+abbrev pub item_rises : List ℕ → PartItem → Bool
+item_rises space (Compare start bytes) = true
+item_rises space (Read start length) = true
+item_rises space (Write start bytes) =
     rises space slots_start space_length slot_size start bytes
-    && (not (nat_eq n.0 0)
-    || rises space catalog_start (catalog_start + catalog_size) entry_size start bytes)
+    && rises space catalog_start (catalog_start + catalog_size) entry_size start bytes

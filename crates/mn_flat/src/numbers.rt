@@ -6,7 +6,7 @@ ghost use Rattle.mn_flat.specs.Numbers.{rises, item_rises};
 
 use crate::held::Held;
 use byteorder::{BigEndian, ByteOrder};
-use mn_base::{NodeNo, Tid};
+use mn_base::Tid;
 use mn_mini::PartItem;
 
 /// Where the entries and the slots begin, how many bytes each has, and where they end.
@@ -49,32 +49,32 @@ fn rises(space: &[u8], first: u32, behind: u32, size: u32, at: u32, bytes: &[u8]
         && number(&space[at..end]) < number(bytes)
 }
 
-/// Whether the item, if it writes, does so at each place of a page or an entry of this node.
-fn item_rises(space: &[u8], node: NodeNo, item: &PartItem) -> bool
-    ensures { result ≡ item_rises space.now node item.now }
+/// Whether the item, if it writes, does so at each place of a page or an entry.
+fn item_rises(space: &[u8], item: &PartItem) -> bool
+    ensures { result ≡ item_rises space.now item.now }
 {
     match item {
         PartItem::Write { start, bytes } => {
             let bytes = bytes.as_slice();
             rises(space, SLOTS_START, SPACE, SLOT_SIZE, *start, bytes)
-                && (node.0 != 0
-                    || rises(space, CATALOG_START, CATALOG_END, ENTRY_SIZE, *start, bytes))
+                && rises(space, CATALOG_START, CATALOG_END, ENTRY_SIZE, *start, bytes)
         }
         PartItem::Compare { .. } | PartItem::Read { .. } => true,
     }
 }
 
 /// Whether each item of a part does so.
-fn part_rises(space: &[u8], node: NodeNo, part: &[PartItem]) -> bool
-    ensures { result ≡ list_all (item_rises space.now node) part.now }
+fn part_rises(space: &[u8], part: &[PartItem]) -> bool
+    ensures { result ≡ list_all (item_rises space.now) part.now }
 {
-    part.iter().all(|item| item_rises(space, node, item))
+    part.iter().all(|item| item_rises(space, item))
 }
 
 /// Whether each item of what is held for the id does so.
-pub fn held_rises(space: &[u8], node: NodeNo, held: &[Held<'_>], tid: Tid) -> bool
+pub fn held_rises(space: &[u8], held: &[Held<'_>], tid: Tid) -> bool
     ensures { result ≡ list_all (λ h. not (tid_same h.tid tid)
-        || list_all (item_rises space.now node) h.part.now) held.now }
+        || list_all (item_rises space.now) h.part.now) held.now }
 {
-    held.iter().all(|h| h.tid != tid || part_rises(space, node, h.part.as_slice()))
+    held.iter()
+        .all(|h| h.tid != tid || part_rises(space, h.part.as_slice()))
 }

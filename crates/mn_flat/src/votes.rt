@@ -115,13 +115,13 @@ fn vote_fits(
 }
 
 /// Whether what is held for the id in the end writes greater numbers, if the id is committed.
-fn vote_rises(told: &Told<'_>, held: &[Held<'_>], space: &[u8], node: NodeNo, tid: Tid) -> bool
+fn vote_rises(told: &Told<'_>, held: &[Held<'_>], space: &[u8], tid: Tid) -> bool
     ensures { result ≡ (not (list_any
         (says_committed told.now.nodes.items tid) told.now.nodes.items)
         || list_all (λ h. not (tid_same h.tid tid)
-        || list_all (item_rises space.now node) h.part.now) held.now) }
+        || list_all (item_rises space.now) h.part.now) held.now) }
 {
-    !is_committed(&told.nodes, tid) || held_rises(space, node, held, tid)
+    !is_committed(&told.nodes, tid) || held_rises(space, held, tid)
 }
 
 /// Whether a vote may stand there, and what its node holds of it in the end writes greater numbers.
@@ -142,9 +142,9 @@ fn vote_stands(
         && not (known_at told.now.all tid).differ))))
         && (not (list_any (says_committed told.now.nodes.items tid) told.now.nodes.items)
         || list_all (λ h. not (tid_same h.tid tid)
-        || list_all (item_rises space.now node) h.part.now) held.now)) }
+        || list_all (item_rises space.now) h.part.now) held.now)) }
 {
-    vote_fits(told, past, node, tid, participants, part) && vote_rises(told, held, space, node, tid)
+    vote_fits(told, past, node, tid, participants, part) && vote_rises(told, held, space, tid)
 }
 
 /// Whether an execution may stand there.

@@ -1,6 +1,6 @@
 -- A space by its places: what stands at each of them makes the whole space.
-use Rattle.std.proofs.Common.{◌≡◌, ◌<◌, ◌≤◌, ◌+◌, ◌-◌, ◌*◌, ℕ, zero, suc, List, [], ◌∷◌, ◌++◌, length, take, drop, replicate, map, Option, Some, None, refl, ap, sym, subst, ◌∙◌, arith, slice_get, append_assoc, append-nil}
-use Rattle.std.specs.List.{flat_map, range_with_len, AllByRecursion}
+use Rattle.std.proofs.Common.{◌≡◌, ◌<◌, ◌≤◌, ◌+◌, ◌-◌, ◌*◌, ℕ, zero, suc, List, [], ◌∷◌, ◌++◌, length, drop, replicate, map, Some, refl, ap, sym, subst, ◌∙◌, arith, slice_get, append_assoc}
+use Rattle.std.specs.List.{flat_map, range_with_len}
 use Rattle.std.proofs.Math.ListN.{drop_of_length-le}
 use Rattle.std.proofs.lemmas.List.{take-append-drop, drop-drop, length-append, length-replicate, replicate-append-replicate}
 use Rattle.mn_mini.specs.Flat.{bytes_in}

@@ -16,7 +16,7 @@ use Rattle.mn_forest.specs.Shown.{ArePages, store_shown}
 use Rattle.mn_page.specs.Holds.{PagesAt}
 use Rattle.mn_forest.proofs.Gathered.{shows_store}
 use Rattle.mn_forest.proofs.Holding.{holding_passes}
-use Rattle.mn_forest.proofs.Passing.{IsReadAs, passing_holds}
+use Rattle.mn_forest.proofs.Passing.{passing_holds}
 
 -- the store that is gathered from a memory which passes each test is the one that it holds
 pub gathered_holds : (memory : List (List ℕ)) (es : List (Option CatEntry)) → 1 ≤ length memory → length memory ≤ 8 → AllByRecursion (λ space. length space ≡ space_size) memory → Says memory es → AllPass memory es

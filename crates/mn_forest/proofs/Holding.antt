@@ -1,5 +1,5 @@
 -- A memory that holds a store passes each test.
-use Rattle.std.proofs.Common.{◌≡◌, ◌<◌, ◌≤◌, ◌+◌, ◌-◌, ◌*◌, ◌⊎◌, inl, inr, ℕ, zero, suc, Bool, false, List, [], ◌∷◌, ◌++◌, length, take, drop, replicate, Option, Some, None, refl, ap, sym, subst, ◌∙◌, arith, slice_get, slice_index_or, append-nil}
+use Rattle.std.proofs.Common.{◌≡◌, ◌<◌, ◌≤◌, ◌+◌, ◌-◌, ◌*◌, ◌⊎◌, inl, inr, ℕ, zero, suc, List, [], ◌∷◌, ◌++◌, length, take, drop, replicate, Option, Some, None, refl, ap, sym, subst, ◌∙◌, arith, slice_get, slice_index_or, append-nil}
 use Rattle.std.specs.List.{flat_map, AllByRecursion}
 use Rattle.std.proofs.Math.Seq.{take-length}
 use Rattle.std.proofs.lemmas.List.{length-map, length-take, length-drop, length-replicate}
@@ -11,14 +11,14 @@ use Rattle.mn_base.proofs.Naturals.{below_or}
 use Rattle.mn_mini.specs.Flat.{bytes_in}
 use Rattle.mn_page.specs.declared.entry.CatEntry.{CatEntry}
 use Rattle.mn_page.specs.declared.page.Page.{Page}
-use Rattle.mn_page.specs.Grammar.{IsEntry, IsUnused, SpellsEntry, padded, page_bytes, entry_bytes, height_of}
-use Rattle.mn_page.specs.Forest.{Forest, node_count, header_bytes, memory_of, page_at, heads_in, children_of, head_of, front_of}
+use Rattle.mn_page.specs.Grammar.{IsEntry, IsUnused, SpellsEntry, padded, page_bytes, height_of}
+use Rattle.mn_page.specs.Forest.{Forest, node_count, header_bytes, memory_of, page_at, heads_in, children_of, front_of}
 use Rattle.mn_page.specs.Holds.{IsChild, IsForest}
 use Rattle.mn_page.proofs.Spelled.{entry_spelled_once, length-padded}
 use Rattle.mn_page.proofs.Counted.{IsCounted, counted}
 use Rattle.mn_page.proofs.Grid.{all_at_place, all_by_place}
-use Rattle.mn_law.proofs.Pieces.{bytes_in-skip, bytes_in-within, AreZeros, zeros_behind}
-use Rattle.mn_plans.proofs.Spaces.{memory_by_pages, space_bytes, catalog_bytes, AreSlots, text_length, slot_free, same_zeros, catalog_length, get_in-index, node_slots, space_in-memory_by_pages, head_length, front_length, page_read, page_there, entry_read, entry_free, entry_there, catalog_region, page_node, memory_length}
+use Rattle.mn_law.proofs.Pieces.{bytes_in-skip, bytes_in-within, AreZeros}
+use Rattle.mn_plans.proofs.Spaces.{memory_by_pages, space_bytes, catalog_bytes, AreSlots, text_length, slot_free, same_zeros, catalog_length, get_in-index, node_slots, space_in-memory_by_pages, front_length, page_read, page_there, entry_read, entry_free, entry_there, catalog_at, page_node, memory_length}
 use Rattle.mn_plans.proofs.SplitRoot.{count_read}
 use Rattle.mn_plans.proofs.Laying.{laid_is}
 use Rattle.mn_plans.proofs.Compares.{element_at}
@@ -107,9 +107,9 @@ module _ (f : Forest) (sound : IsForest f) where
   -- spaces are whole
   whole_at : (n : ℕ) → n < node_count f → length (space_bytes f n) ≡ 4214784
   whole_at n in' =
-      length-padded 4214784 (front_of (node_count f) n (length (slice_index_or f.pages n [])) (catalog_bytes f n) ++ flat_map page_bytes (slice_index_or f.pages n []))
+      length-padded 4214784 (front_of (node_count f) n (length (slice_index_or f.pages n [])) (catalog_bytes f) ++ flat_map page_bytes (slice_index_or f.pages n []))
       (let few = pages_few f.pages n sound.laid.counts in
-      let long = text_length (front_of (node_count f) n (length (slice_index_or f.pages n [])) (catalog_bytes f n)) (slice_index_or f.pages n []) (front_length (node_count f) n (length (slice_index_or f.pages n [])) (catalog_bytes f n) (catalog_length f cnt n)) (node_slots f cnt n) in
+      let long = text_length (front_of (node_count f) n (length (slice_index_or f.pages n [])) (catalog_bytes f)) (slice_index_or f.pages n []) (front_length (node_count f) n (length (slice_index_or f.pages n [])) (catalog_bytes f) (catalog_length f cnt)) (node_slots f cnt n) in
       omega arith)
 
   length_at : (s n k : ℕ) → n < node_count f → s + k ≤ 4214784 → length (bytes_in (space_at M n) s k) ≡ k
@@ -129,8 +129,8 @@ module _ (f : Forest) (sound : IsForest f) where
   front_read n in' =
       let few = pages_few f.pages n sound.laid.counts in
       let slots = length-flat (slice_index_or f.pages n []) (node_slots f cnt n) in
-      let cat = catalog_length f cnt n in
-      header_read (header_bytes (node_count f) n) (big_bytes 8 (length (slice_index_or f.pages n []))) (catalog_bytes f n) (flat_map page_bytes (slice_index_or f.pages n [])) (4096 - length (catalog_bytes f n)) (4194304 - length (flat_map page_bytes (slice_index_or f.pages n []))) refl
+      let cat = catalog_length f cnt in
+      header_read (header_bytes (node_count f) n) (big_bytes 8 (length (slice_index_or f.pages n []))) (catalog_bytes f) (flat_map page_bytes (slice_index_or f.pages n [])) (4096 - length (catalog_bytes f)) (4194304 - length (flat_map page_bytes (slice_index_or f.pages n []))) refl
       (length-bytes_high_first 8 (length (slice_index_or f.pages n []))) (omega arith) (omega arith)
     where
       length-flat : (ps : List Page) → AreSlots ps → length (flat_map page_bytes ps) ≡ 1024 * length ps
@@ -162,7 +162,7 @@ module _ (f : Forest) (sound : IsForest f) where
     entry_said w e is = by (element_at es w (let size = says.places in let low = place_in f.entries w e is in let few = few_entries in omega arith))
       where
         spelled : SpellsEntry (entry_place M 0 w) e
-        spelled = (all_at_place IsEntry f.entries w e sound.laid.entries is, entry_read f cnt w e is)
+        spelled = (all_at_place IsEntry f.entries w e sound.laid.entries is, entry_read f cnt (record { 0 = 0 }) w e sound.laid.nodes.0 is)
 
         by : (o : Option CatEntry) × (slice_get es w ≡ Some o) → slice_get es w ≡ Some (Some e)
         by s = reads s.0 s.1 (says.each w s.0 s.1)
@@ -174,7 +174,7 @@ module _ (f : Forest) (sound : IsForest f) where
     said_entry : (w : ℕ) (e : CatEntry) → slice_get es w ≡ Some (Some e) → slice_get f.entries w ≡ Some e
     said_entry w e is =
         let spelled = says.each w (Some e) is in
-        entry_there f cnt w e (let size = says.places in let low = place_in es w (Some e) is in omega arith) spelled.0 spelled.1
+        entry_there f cnt (record { 0 = 0 }) w e sound.laid.nodes.0 (let size = says.places in let low = place_in es w (Some e) is in omega arith) spelled.0 spelled.1
 
     pub entries_are : entries_of es ≡ f.entries
     entries_are = said_entries es f.entries entry_said said_entry
@@ -183,7 +183,7 @@ module _ (f : Forest) (sound : IsForest f) where
     first w e is = used_before es w e (ap (λ (l : List CatEntry). slice_get l w) entries_are ∙ said_entry w e is)
 
     unused_at : (w : ℕ) → w < 64 → length f.entries ≤ w → IsUnused (entry_place M 0 w)
-    unused_at w low past = zeros_at (entry_place M 0 w) 64 (length_at (64 + 64 * w) 0 64 sound.laid.nodes.0 (omega arith)) (entry_free f cnt w low past)
+    unused_at w low past = zeros_at (entry_place M 0 w) 64 (length_at (64 + 64 * w) 0 64 sound.laid.nodes.0 (omega arith)) (entry_free f cnt (record { 0 = 0 }) w sound.laid.nodes.0 low past)
 
     has_entry : (w : ℕ) → w < 64 → HasEntry M es w
     has_entry w low = by (element_at es w (let size = says.places in omega arith))
@@ -202,23 +202,9 @@ module _ (f : Forest) (sound : IsForest f) where
               | inr past ↦ inl (unused_at w low past)
             ]
 
-    unused_on : (n w : ℕ) → suc n < node_count f → w < 64 → IsUnused (entry_place M (suc n) w)
-    unused_on n w in' low =
-        zeros_at (entry_place M (suc n) w) 64 (length_at (64 + 64 * w) (suc n) 64 in' (omega arith))
-        (subst AreZeros (sym (ap (λ (s : List ℕ). bytes_in s (64 + 64 * w) 64) (space_in-memory_by_pages f (record { 0 = suc n }) in' ∙ no_catalog)
-        ∙ catalog_region [] (head_of (node_count f) (suc n) (length (slice_index_or f.pages (suc n) []))) (flat_map page_bytes (slice_index_or f.pages (suc n) [])) (64 * w) 64
-        (head_length (node_count f) (suc n) (length (slice_index_or f.pages (suc n) []))) (omega arith) (omega arith)))
-        (zeros_behind 4096 [] (64 * w) 64 (omega arith)))
-      where
-        off : Rattle.std.specs.Prelude.nat_eq (suc n) 0 ≡ false
-        off = grind arith
-
-        no_catalog : space_bytes f (suc n) ≡ padded 4214784 (front_of (node_count f) (suc n) (length (slice_index_or f.pages (suc n) [])) [] ++ flat_map page_bytes (slice_index_or f.pages (suc n) []))
-        no_catalog = ap (λ (b : Bool). padded 4214784 (front_of (node_count f) (suc n) (length (slice_index_or f.pages (suc n) [])) (Rattle.std.proofs.Common.if◌then◌else◌ b (flat_map entry_bytes f.entries) []) ++ flat_map page_bytes (slice_index_or f.pages (suc n) []))) off
-
     entry_test : (n w : ℕ) → n < node_count f → w < 64 → HasEntryAt M es n w
     entry_test zero w in' low = has_entry w low
-    entry_test (suc n) w in' low = unused_on n w in' low
+    entry_test (suc n) w in' low = catalog_at f cnt (record { 0 = suc n }) (64 * w) 64 in' (omega arith) ∙ sym (catalog_at f cnt (record { 0 = 0 }) (64 * w) 64 (omega arith) (omega arith))
 
     root_test : (n w : ℕ) → w < 64 → HasRootAt M es n w
     root_test (suc n) w low = tt
@@ -244,8 +230,8 @@ module _ (f : Forest) (sound : IsForest f) where
           let count = count_is addr.node.0 in' in
           zeros_at (slot_place M addr.node.0 addr.slot) 1024 (length_at (20480 + 1024 * addr.slot) addr.node.0 1024 in' (omega arith))
           (subst AreZeros (sym (ap (λ (s : List ℕ). bytes_in s (20480 + 1024 * addr.slot) 1024) (space_in-memory_by_pages f addr.node in')))
-          (slot_free (front_of (node_count f) addr.node.0 (length (slice_index_or f.pages addr.node.0 [])) (catalog_bytes f addr.node.0)) (slice_index_or f.pages addr.node.0 []) addr.slot
-          (front_length (node_count f) addr.node.0 (length (slice_index_or f.pages addr.node.0 [])) (catalog_bytes f addr.node.0) (catalog_length f cnt addr.node.0)) (node_slots f cnt addr.node.0) (omega arith)));
+          (slot_free (front_of (node_count f) addr.node.0 (length (slice_index_or f.pages addr.node.0 [])) (catalog_bytes f)) (slice_index_or f.pages addr.node.0 []) addr.slot
+          (front_length (node_count f) addr.node.0 (length (slice_index_or f.pages addr.node.0 [])) (catalog_bytes f) (catalog_length f cnt)) (node_slots f cnt addr.node.0) (omega arith)));
     }
 
     children_test : (addr : Addr) → HasChildren M f.entries addr

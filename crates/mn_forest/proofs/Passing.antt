@@ -1,7 +1,7 @@
 -- A memory that passes each test is that of a forest: its pages are read one by one, and their
 -- places make the spaces.
-use Rattle.std.proofs.Common.{◌≡◌, ◌<◌, ◌≤◌, ◌+◌, ◌-◌, ◌*◌, ◌⊎◌, inl, inr, ℕ, zero, suc, Bool, false, List, [], ◌∷◌, ◌++◌, length, drop, replicate, map, Option, Some, None, refl, ap, sym, subst, ◌∙◌, arith, slice_get, slice_index_or, append-nil, if◌then◌else◌}
-use Rattle.std.specs.Prelude.{IsTrue, nat_eq}
+use Rattle.std.proofs.Common.{◌≡◌, ◌<◌, ◌≤◌, ◌+◌, ◌-◌, ◌*◌, ◌⊎◌, inl, inr, ℕ, zero, suc, List, [], ◌∷◌, ◌++◌, length, drop, replicate, map, Option, Some, None, refl, ap, sym, subst, ◌∙◌, arith, slice_get, slice_index_or, append-nil}
+use Rattle.std.specs.Prelude.{IsTrue}
 use Rattle.std.specs.List.{flat_map, range_with_len, AllByRecursion}
 use Rattle.std.proofs.lemmas.List.{length-append}
 use Rattle.byteorder.specs.Endian.{big_bytes}
@@ -17,7 +17,7 @@ use Rattle.mn_page.specs.Holds.{HasVersions, IsChild, IsRoot, IsLaid, IsForest, 
 use Rattle.mn_page.proofs.Spelled.{page_length, entry_length}
 use Rattle.mn_page.proofs.Grid.{all_by_place, all_at_place}
 use Rattle.mn_law.proofs.Pieces.{length-pieces}
-use Rattle.mn_plans.proofs.Spaces.{space_bytes, catalog_bytes, get_in-index, page_node}
+use Rattle.mn_plans.proofs.Spaces.{space_bytes, get_in-index, page_node}
 use Rattle.mn_plans.proofs.Laying.{laid_is}
 use Rattle.mn_plans.proofs.Compares.{element_at}
 use Rattle.mn_forest.specs.Rules.{Says, ReadsAs, space_at, count_at, entry_place, StandsAt, entries_of, zeros, HasHeader, IsCount, HasEntry, EntryFits, IsReadable, IsRootAt, IsChildAt, IsReached, OfHeader, OfCount, OfEntry, OfRoot, OfPage, OfChildren, OfReach, AllPass}
@@ -119,14 +119,6 @@ module _ (memory : List (List ℕ)) (full : AllByRecursion (λ space. length spa
       let has : HasEntry memory es w = pass 0 (OfEntry w) some (let size = says.places in omega arith) in
       subst (λ (x : Option CatEntry). EntryFits es w x) (entry_is es w o is) has.fits
 
-  -- the entries that stand on a node
-  record AreEntriesOn (n : ℕ) (xs : List CatEntry) : Type 0 where
-    few : length xs ≤ 64
-    laid : catalog_bytes f n ≡ flat_map entry_bytes xs
-    sizes : AllByRecursion (λ e. length (entry_bytes e) ≡ 64) xs
-    each : (i : ℕ) (e : CatEntry) → slice_get xs i ≡ Some e → bytes_in (space_at memory n) (64 + 64 * i) 64 ≡ entry_bytes e
-    free : (i : ℕ) → i < 64 - length xs → bytes_in (space_at memory n) (64 + 64 * length xs + 64 * i) 64 ≡ replicate 64 0
-
   entry_spelled : (w : ℕ) (e : CatEntry) → slice_get (entries_of es) w ≡ Some e → IsEntry e × (entry_place memory 0 w ≡ entry_bytes e)
   entry_spelled w e is = says.each w (Some e) (entry_place_of es w e is)
 
@@ -142,36 +134,21 @@ module _ (memory : List (List ℕ)) (full : AllByRecursion (λ space. length spa
           reads None at r = absurd (r spelled.0 spelled.1)
           reads (Some d) at r = absurd (let in' = place_in (entries_of es) w d (place_entry es (used_first es all_fit) w d at) in omega arith)
 
-  at_slot : (n a b : ℕ) → a ≡ b → IsUnused (bytes_in (space_at memory n) a 64) → bytes_in (space_at memory n) b 64 ≡ replicate 64 0
-  at_slot n a b e is = ap (λ (k : ℕ). bytes_in (space_at memory n) k 64) (sym e) ∙ is
+  -- on each node the places of the catalog are those of node 0
+  same_place : (n w : ℕ) → n < length memory → w < 64 → entry_place memory n w ≡ entry_place memory 0 w
+  same_place zero w in' low = refl
+  same_place (suc n) w in' low = pass (suc n) (OfEntry w) in' low
 
-  entries_on : (n : ℕ) → n < length memory → (xs : List CatEntry) × AreEntriesOn n xs
-  entries_on zero in' = (
-    entries_of es,
-    record {
-      few = (let all = entries_few es in let size = says.places in omega arith);
-      laid = refl;
-      sizes = all_by_place (λ e. length (entry_bytes e) ≡ 64) (entries_of es) (λ i e is. entry_length e (entry_spelled i e is).0);
-      each = λ i e is. (entry_spelled i e is).1;
-      free = λ i low. at_slot 0 (64 + 64 * (length (entries_of es) + i)) (64 + 64 * length (entries_of es) + 64 * i) (omega arith) (behind_entries (length (entries_of es) + i) (omega arith) (omega arith));
-    },
-  )
-  entries_on (suc n) in' = (
-    [],
-    record {
-      few = omega arith;
-      laid = ap (λ (b : Bool). if b then flat_map entry_bytes (entries_of es) else []) off;
-      sizes = tt;
-      each = λ i e is. absurd cc;
-      free = λ i low. at_slot (suc n) (64 + 64 * i) (64 + 64 * 0 + 64 * i) (omega arith) (unused i (omega arith));
-    },
-  )
-    where
-      off : nat_eq (suc n) 0 ≡ false
-      off = grind arith
+  few_entries : length (entries_of es) ≤ 64
+  few_entries = let all = entries_few es in let size = says.places in omega arith
 
-      unused : (w : ℕ) → w < 64 → IsUnused (entry_place memory (suc n) w)
-      unused w low = pass (suc n) (OfEntry w) in' low
+  entry_on : (n : ℕ) → n < length memory → (w : ℕ) (e : CatEntry) → slice_get (entries_of es) w ≡ Some e → bytes_in (space_at memory n) (64 + 64 * w) 64 ≡ entry_bytes e
+  entry_on n in' w e is = same_place n w in' (let low = place_in (entries_of es) w e is in let few = few_entries in omega arith) ∙ (entry_spelled w e is).1
+
+  free_on : (n : ℕ) → n < length memory → (i : ℕ) → i < 64 - length (entries_of es) → bytes_in (space_at memory n) (64 + 64 * length (entries_of es) + 64 * i) 64 ≡ replicate 64 0
+  free_on n in' i low =
+      ap (λ (k : ℕ). bytes_in (space_at memory n) k 64) (let h : 64 + 64 * length (entries_of es) + 64 * i ≡ 64 + 64 * (length (entries_of es) + i) = omega arith in h)
+      ∙ (same_place n (length (entries_of es) + i) in' (omega arith) ∙ behind_entries (length (entries_of es) + i) (omega arith) (omega arith))
 
   -- Spaces
 
@@ -194,33 +171,36 @@ module _ (memory : List (List ℕ)) (full : AllByRecursion (λ space. length spa
       (nothing_behind (space_at memory n) 4214784 (space_length_at memory n full in')))
       ∙ ap (λ (l : List ℕ). flat_map page_bytes (slice_index_or pss n []) ++ l) (append-nil (replicate (1024 * (4096 - length (slice_index_or pss n []))) 0))
 
-  catalog_part : (n : ℕ) (xs : List CatEntry) → AreEntriesOn n xs → (rest : List ℕ) → drop 4160 (space_at memory n) ≡ rest → drop 64 (space_at memory n) ≡ flat_map entry_bytes xs ++ (replicate (64 * (64 - length xs)) 0 ++ rest)
-  catalog_part n xs are rest is =
-      let few = are.few in
-      pieces entry_bytes 64 (space_at memory n) xs 64 (64 + 64 * length xs) (replicate (64 * (64 - length xs)) 0 ++ rest) are.each refl
-      (no_pieces 64 (space_at memory n) (64 - length xs) (64 + 64 * length xs) 4160 (64 * (64 - length xs)) rest are.free (omega arith) refl is)
+  catalog_part : (n : ℕ) → n < length memory → (rest : List ℕ) → drop 4160 (space_at memory n) ≡ rest → drop 64 (space_at memory n) ≡ flat_map entry_bytes (entries_of es) ++ (replicate (64 * (64 - length (entries_of es))) 0 ++ rest)
+  catalog_part n in' rest is =
+      let few = few_entries in
+      pieces entry_bytes 64 (space_at memory n) (entries_of es) 64 (64 + 64 * length (entries_of es)) (replicate (64 * (64 - length (entries_of es))) 0 ++ rest) (entry_on n in') refl
+      (no_pieces 64 (space_at memory n) (64 - length (entries_of es)) (64 + 64 * length (entries_of es)) 4160 (64 * (64 - length (entries_of es))) rest (free_on n in') (omega arith) refl is)
+
+  entry_sizes : AllByRecursion (λ e. length (entry_bytes e) ≡ 64) (entries_of es)
+  entry_sizes = all_by_place (λ e. length (entry_bytes e) ≡ 64) (entries_of es) (λ i e is. entry_length e (entry_spelled i e is).0)
 
   space_is : (n : ℕ) → n < length memory → space_at memory n ≡ space_bytes f n
-  space_is n in' = by (entries_on n in') (pass n OfHeader in' tt) (pass n OfCount in' tt)
+  space_is n in' = by (pass n OfHeader in' tt) (pass n OfCount in' tt)
     where
-      by : (xs : List CatEntry) × AreEntriesOn n xs → HasHeader memory n → IsCount (bytes_in (space_at memory n) 16 8) → space_at memory n ≡ space_bytes f n
-      by xs header count =
+      by : HasHeader memory n → IsCount (bytes_in (space_at memory n) 16 8) → space_at memory n ≡ space_bytes f n
+      by header count =
           let space = space_at memory n in
           let ps = slice_index_or pss n [] in
           let long = length-pieces page_bytes 1024 (slice_index_or pss n []) (page_sizes n in') in
-          let cats = length-pieces entry_bytes 64 xs.0 xs.1.sizes in
+          let cats = length-pieces entry_bytes 64 (entries_of es) entry_sizes in
           let few = count_most n in' in
           let many = read.counts n in' in
-          let least = xs.1.few in
+          let least = few_entries in
           let parts = step (space_at memory n) 0 16 16 (header_bytes (length memory) n) _ refl header.front (step (space_at memory n) 16 8 24 (big_bytes 8 (count_at memory n)) _ refl count.spelled
-          (step (space_at memory n) 24 40 64 (zeros 40) _ refl header.behind (catalog_part n xs.0 xs.1 _ (step (space_at memory n) 4160 16320 20480 (zeros 16320) _ refl header.kept (pages_part n in'))))) in
-          whole (space_at memory n) (header_bytes (length memory) n) (big_bytes 8 (count_at memory n)) (flat_map entry_bytes xs.0) (flat_map page_bytes (slice_index_or pss n [])) (64 * (64 - length xs.0)) (1024 * (4096 - length (slice_index_or pss n []))) refl
+          (step (space_at memory n) 24 40 64 (zeros 40) _ refl header.behind (catalog_part n in' _ (step (space_at memory n) 4160 16320 20480 (zeros 16320) _ refl header.kept (pages_part n in'))))) in
+          whole (space_at memory n) (header_bytes (length memory) n) (big_bytes 8 (count_at memory n)) (flat_map entry_bytes (entries_of es)) (flat_map page_bytes (slice_index_or pss n [])) (64 * (64 - length (entries_of es))) (1024 * (4096 - length (slice_index_or pss n []))) refl
           (length-bytes_high_first 8 (count_at memory n)) (omega arith) (omega arith) parts
-          ∙ (ap (λ (k : ℕ). laid k (big_bytes 8 (count_at memory n)) (flat_map entry_bytes xs.0)) (sym read.size)
-          ∙ (ap (λ (k : ℕ). laid (length pss) (big_bytes 8 k) (flat_map entry_bytes xs.0)) (sym (read.counts n in')) ∙ ap (λ (l : List ℕ). laid (length pss) (big_bytes 8 (length (slice_index_or pss n []))) l) (sym xs.1.laid)))
+          ∙ (ap (λ (k : ℕ). laid k (big_bytes 8 (count_at memory n))) (sym read.size)
+          ∙ ap (λ (k : ℕ). laid (length pss) (big_bytes 8 k)) (sym (read.counts n in')))
         where
-          laid : ℕ → List ℕ → List ℕ → List ℕ
-          laid k count catalog = padded 4214784 (padded 20480 (padded 64 (header_bytes k n ++ count) ++ padded 4096 catalog) ++ flat_map page_bytes (slice_index_or pss n []))
+          laid : ℕ → List ℕ → List ℕ
+          laid k count = padded 4214784 (padded 20480 (padded 64 (header_bytes k n ++ count) ++ padded 4096 (flat_map entry_bytes (entries_of es))) ++ flat_map page_bytes (slice_index_or pss n []))
 
   memory_is : memory ≡ memory_of f
   memory_is =

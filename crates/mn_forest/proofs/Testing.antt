@@ -3,7 +3,6 @@ use Rattle.std.proofs.Common.{◌≡◌, ◌<◌, ◌≤◌, ◌⊎◌, inl, inr
 use Rattle.mn_page.specs.declared.entry.CatEntry.{CatEntry}
 use Rattle.std.specs.Prelude.{MatchBool}
 use Rattle.mn_base.proofs.Naturals.{below_or}
-use Rattle.mn_page.specs.Grammar.{IsUnused}
 use Rattle.mn_forest.specs.declared.error.ForestError.{ForestError}
 use Rattle.mn_forest.specs.declared.error.ForestError.TheVariants.{Broken}
 use Rattle.mn_flat.specs.Votes.{numbered}
@@ -114,13 +113,13 @@ all_pass memory es n front entries to (OfReach s) is = (to s is).2
 
 -- nodes behind the first
 
-pub unused_at : (memory : List (List ℕ)) (es : List (Option CatEntry)) (n w : ℕ) → 1 ≤ n → IsUnused (entry_place memory n w) → HasEntryAt memory es n w × HasRootAt memory es n w
-unused_at memory es zero w some u = absurd (omega arith)
-unused_at memory es (suc n) w some u = (u, tt)
+pub same_entry : (memory : List (List ℕ)) (es : List (Option CatEntry)) (n w : ℕ) → 1 ≤ n → entry_place memory n w ≡ entry_place memory 0 w → HasEntryAt memory es n w × HasRootAt memory es n w
+same_entry memory es zero w some is = absurd (omega arith)
+same_entry memory es (suc n) w some is = (is, tt)
 
-pub used_at : (memory : List (List ℕ)) (es : List (Option CatEntry)) (n w : ℕ) → 1 ≤ n → (IsUnused (entry_place memory n w) → ⊥) → HasEntryAt memory es n w → ⊥
-used_at memory es zero w some u h = absurd (omega arith)
-used_at memory es (suc n) w some u h = u h
+pub other_entry : (memory : List (List ℕ)) (es : List (Option CatEntry)) (n w : ℕ) → 1 ≤ n → (entry_place memory n w ≡ entry_place memory 0 w → ⊥) → HasEntryAt memory es n w → ⊥
+other_entry memory es zero w some differ h = absurd (omega arith)
+other_entry memory es (suc n) w some differ h = differ h
 
 -- a test by its answer
 pub fails_so : (P : Type 0) (b : Bool) → MatchBool b P (P → ⊥) → b ≡ false → P → ⊥

@@ -1,7 +1,7 @@
 -- The rules of the forest: what must hold of the bytes of all nodes so that they hold a store, each
 -- where it is tested.
 use Rattle.std.specs.Prelude.{◌≡◌, ℕ, zero, suc, ◌+◌, ◌*◌, ◌<◌, ◌≤◌, ◌⊎◌, Bool, true, false, nat_lt}
-use Rattle.std.specs.Prelude.{nat_eq, IsTrue, List, [], ◌∷◌, length, map, take, replicate, Option}
+use Rattle.std.specs.Prelude.{nat_eq, IsTrue, List, [], ◌∷◌, length, take, replicate, Option}
 use Rattle.std.specs.Prelude.{Some, None, is_some, slice_get, slice_index_or, bytes_eq, Contains}
 use Rattle.std.specs.List.{list_all, list_any, AllByRecursion}
 use Rattle.std.specs.Option.{option_map_or}
@@ -13,7 +13,7 @@ use Rattle.mn_mini.specs.Flat.{bytes_in}
 use Rattle.mn_page.specs.declared.entry.CatEntry.{CatEntry}
 use Rattle.mn_page.specs.declared.page.Page.{Page}
 use Rattle.mn_page.specs.Space.{count_start, count_size, catalog_start, catalog_size, entry_size}
-use Rattle.mn_page.specs.Space.{slots_start, slot_size, max_slots, entry_start, slot_start}
+use Rattle.mn_page.specs.Space.{slot_size, max_slots, entry_start, slot_start}
 use Rattle.mn_page.specs.Grammar.{SpellsEntry, IsUnused, SpellsPage, IsFree, height_of}
 use Rattle.mn_page.specs.Forest.{header_bytes, ChildRange, children_of}
 use Rattle.mn_page.specs.Holds.{HasVersions, page_serves}
@@ -111,10 +111,10 @@ pub record HasEntry (memory : List (List ℕ)) (es : List (Option CatEntry)) (w 
   pub grammar : IsReadable (entry_place memory 0 w)
   pub fits : EntryFits es w (entry_of es w)
 
--- the catalog stands on node 0 alone
+-- on the nodes behind the first it is, byte for byte, that of the first
 abbrev pub HasEntryAt : List (List ℕ) → List (Option CatEntry) → ℕ → ℕ → Type 0
 HasEntryAt memory es zero w = HasEntry memory es w
-HasEntryAt memory es (suc n) w = IsUnused (entry_place memory (suc n) w)
+HasEntryAt memory es (suc n) w = entry_place memory (suc n) w ≡ entry_place memory 0 w
 
 -- the root of a used entry is a page that was made in its version, without fences
 pub record IsRootAt (memory : List (List ℕ)) (w : ℕ) (e : CatEntry) : Type 0 where

@@ -13,7 +13,7 @@ ghost use Rattle.mn_forest.specs.Progress.{SaysFailed};
 ghost use Rattle.mn_forest.specs.Trees.{AreVersions, AreNames};
 ghost use Rattle.mn_flat.specs.Votes.{numbered};
 
-use crate::front::{catalog_in, has_count, has_entry, has_header, has_root, is_unused};
+use crate::front::{catalog_in, has_count, has_entry, has_header, has_root, has_same_entry};
 use crate::pages::{Names, Versions, has_children, has_page, is_reached};
 use crate::place::{ENTRIES, entry_start, slot_start};
 use crate::shown::store_in;
@@ -104,8 +104,8 @@ fn test_catalog(spaces: &[Bytes], entries: &[Option<CatEntry>]) -> Result<(), Fo
     Ok(())
 }
 
-/// Tests that a node behind the first has no catalog.
-fn test_unused(spaces: &[Bytes], node: u8) -> Result<(), ForestError>
+/// Tests that a node behind the first has the catalog of the first.
+fn test_same_catalog(spaces: &[Bytes], node: u8) -> Result<(), ForestError>
     requires behind { 1 ≤ node }
     requires there { node < length spaces.now }
     requires whole { AllByRecursion (λ space. length space ≡ space_size) spaces.now }
@@ -116,7 +116,7 @@ fn test_unused(spaces: &[Bytes], node: u8) -> Result<(), ForestError>
 {
     for entry in 0..ENTRIES {
         pass(
-            is_unused(spaces, node, entry),
+            has_same_entry(spaces, node, entry),
             node,
             entry_start(entry),
             Rule::Entry,
@@ -206,7 +206,7 @@ fn test_node(
         → IfErr result (SaysFailed spaces.now es node) }
 {
     test_front(spaces, node)?;
-    test_unused(spaces, node)?;
+    test_same_catalog(spaces, node)?;
     test_slots(spaces, versions, names, node)?;
     Ok(())
 }
@@ -318,16 +318,17 @@ fn test_all(
 /// there was no memory for it.
 ///
 /// The rules are: `Header` (at 0), the header is that of the format, and bytes that are kept are
-/// zero. `Count` (at 16), at most 4,096 slots are given out. `Entry` (where it begins), it is an
-/// entry or unused, no used one follows an unused one, the first one is used and has no parent,
-/// each other used one has a parent of a lower number, no name comes twice, and a version is frozen
-/// exactly where it has a child; on the nodes behind the first all are unused. `Root` (where the
-/// entry begins), its root is a page that was made in its version and has no fences. `Page` (where
-/// a slot begins), below the count it is a page of versions that there are, whose copied set
-/// descends from the version that it was made in, and from the count on it is free. `Child` (where
-/// the page begins), each child is a page one height lower with just the child's range, which
-/// serves what its parent serves. `Reach` (where the page begins), for each version that the page
-/// serves it is the root, or a page one height up that serves the version names it.
+/// zero. `Count` (at 16), at most 4,096 slots are given out. `Entry` (where it begins), on node 0
+/// it is an entry or unused, no used one follows an unused one, the first one is used and has no
+/// parent, each other used one has a parent of a lower number, no name comes twice, and a version
+/// is frozen exactly where it has a child; on the nodes behind the first it is, byte for byte, that
+/// of node 0. `Root` (where the entry begins, on node 0 alone), its root is a page that was made in
+/// its version and has no fences. `Page` (where a slot begins), below the count it is a page of
+/// versions that there are, whose copied set descends from the version that it was made in, and
+/// from the count on it is free. `Child` (where the page begins), each child is a page one height
+/// lower with just the child's range, which serves what its parent serves. `Reach` (where the page
+/// begins), for each version that the page serves it is the root, or a page one height up that
+/// serves the version names it.
 pub fn check(alloc: Global, spaces: &Spaces) -> Result<Store, ForestError>
     requires some { 1 ≤ length spaces.now }
     requires few { length spaces.now ≤ 8 }

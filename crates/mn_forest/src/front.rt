@@ -98,15 +98,27 @@ pub fn has_count(spaces: &[Bytes], node: u8) -> bool
     is_count(range(space_at(spaces, node), 16, 8))
 }
 
-/// Whether a place of the catalog is unused.
-pub fn is_unused(spaces: &[Bytes], node: u8, entry: usize) -> bool
+/// Whether a place of the catalog of node 0 is unused.
+fn is_unused(spaces: &[Bytes], entry: usize) -> bool
+    requires some { 0 < length spaces.now }
+    requires whole { AllByRecursion (λ space. length space ≡ space_size) spaces.now }
+    requires place { entry < 64 }
+    ensures { MatchBool result (IsUnused (entry_place spaces.now 0 entry))
+        (IsUnused (entry_place spaces.now 0 entry) → ⊥) }
+{
+    are_zeros(entry_place(spaces, 0, entry))
+}
+
+/// Whether a place of the node's catalog is, byte for byte, that of node 0, whatever it says.
+pub fn has_same_entry(spaces: &[Bytes], node: u8, entry: usize) -> bool
     requires there { node < length spaces.now }
     requires whole { AllByRecursion (λ space. length space ≡ space_size) spaces.now }
     requires place { entry < 64 }
-    ensures { MatchBool result (IsUnused (entry_place spaces.now node entry))
-        (IsUnused (entry_place spaces.now node entry) → ⊥) }
+    ensures { MatchBool result
+        (entry_place spaces.now node entry ≡ entry_place spaces.now 0 entry)
+        (entry_place spaces.now node entry ≡ entry_place spaces.now 0 entry → ⊥) }
 {
-    are_zeros(entry_place(spaces, node, entry))
+    entry_place(spaces, node, entry) == entry_place(spaces, 0, entry)
 }
 
 /// Version 0 has no parent, each other one a parent of a lower number.
@@ -186,7 +198,7 @@ fn is_readable(spaces: &[Bytes], entries: &[Option<CatEntry>], version: usize) -
 {
     match &entries[version] {
         Some(_) => true,
-        None => is_unused(spaces, 0, version),
+        None => is_unused(spaces, version),
     }
 }
 

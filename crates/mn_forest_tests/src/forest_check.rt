@@ -220,6 +220,30 @@ const FRONTS: &[Row] = &[
     (&[(1, 4_159, &[1])], Some((1, 4_096, Rule::Entry))),
 ];
 
+const SECOND_CATALOG: &[Row] = &[
+    // On node 1 the entry of `main` is none, is another one, or is no entry.
+    (&[(1, 64, &[0; 64])], Some((1, 64, Rule::Entry))),
+    (&[(1, 71, &[2])], Some((1, 64, Rule::Entry))),
+    (&[(1, 72, &[3])], Some((1, 64, Rule::Entry))),
+    (&[(1, 127, &[1])], Some((1, 64, Rule::Entry))),
+    (&[(1, 128, NEXT)], Some((1, 128, Rule::Entry))),
+    // Where both nodes have the same fault, node 0's is named; of a root node 0 alone is at fault.
+    (&[(0, 72, &[3]), (1, 72, &[3])], Some((0, 64, Rule::Entry))),
+    (
+        &[(0, 64, &[0; 64]), (1, 64, &[0; 64])],
+        Some((0, 64, Rule::Entry)),
+    ),
+    (&[(0, 76, &[1]), (1, 76, &[1])], Some((0, 64, Rule::Root))),
+    // Both have another number.
+    (&[(0, 71, &[2]), (1, 71, &[2])], None),
+];
+
+#[test]
+fn names_an_entry_that_differs_from_node_0(rt: HostRuntime) -> Result<(), Fail> {
+    assert!(rt; says(rt.alloc(), &[], SECOND_CATALOG)?);
+    Ok(())
+}
+
 #[test]
 fn names_the_front_at_fault(rt: HostRuntime) -> Result<(), Fail> {
     assert!(rt; says(rt.alloc(), &[], FRONTS)?);
@@ -238,8 +262,33 @@ const CHILD: Change = (0, 128, NEXT);
 
 const ITS_LEAF: Change = (0, SLOT_1, NEXT_LEAF);
 
+/// The same entries on node 1.
+const FROZEN_THERE: Change = (1, 72, FROZEN);
+
+const CHILD_THERE: Change = (1, 128, NEXT);
+
 const ENTRIES: &[Row] = &[
-    (&[FROZEN_MAIN, TWO, ITS_LEAF, COPIED, CHILD], None),
+    (
+        &[
+            FROZEN_MAIN,
+            FROZEN_THERE,
+            TWO,
+            ITS_LEAF,
+            COPIED,
+            CHILD,
+            CHILD_THERE,
+        ],
+        None,
+    ),
+    // Node 1 has one of the two entries alone.
+    (
+        &[FROZEN_MAIN, TWO, ITS_LEAF, COPIED, CHILD, CHILD_THERE],
+        Some((1, 64, Rule::Entry)),
+    ),
+    (
+        &[FROZEN_MAIN, FROZEN_THERE, TWO, ITS_LEAF, COPIED, CHILD],
+        Some((1, 128, Rule::Entry)),
+    ),
     // Its name stands twice; it is behind a free entry.
     (
         &[FROZEN_MAIN, TWO, ITS_LEAF, COPIED, (0, 128, MAIN_AGAIN)],

@@ -15,6 +15,12 @@ const SLOT: u32 = 21_504;
 /// The bytes of a slot.
 const SIZE: usize = 1_024;
 
+/// The place of the first entry, which is that of `main`, under number 1, on both nodes.
+const ENTRY: u32 = 64;
+
+/// The bytes of an entry.
+const ENTRY_SIZE: usize = 64;
+
 fn tid(serial: u32) -> Tid {
     Tid {
         run: 1,
@@ -38,11 +44,11 @@ fn part(alloc: Global) -> Result<Part, NoMemory> {
     writing(alloc, PLACE, &[0x61])
 }
 
-/// A part that writes so many bytes of the slot, under this number.
-fn numbered(alloc: Global, number: u8, size: usize) -> Result<Part, NoMemory> {
+/// A part that writes so many bytes of a page or an entry, under this number.
+fn numbered(alloc: Global, start: u32, number: u8, size: usize) -> Result<Part, NoMemory> {
     let mut bytes = [0u8; SIZE];
     bytes[7] = number;
-    writing(alloc, SLOT, &bytes[..size.min(SIZE)])
+    writing(alloc, start, &bytes[..size.min(SIZE)])
 }
 
 /// A vote of id 1 for two nodes, with this part.
@@ -77,15 +83,19 @@ fn decided(yes: bool) -> Record {
 /// 1, 0 and 0, and 1 and 8; y and n, a decision with yes and with no; f, it is forced; e, an
 /// execution, and o, one of another id. Votes for nodes 0 and 1 of the slot: 0 and 1 write it whole
 /// under these numbers, h the half of it under number 1; 2 is an execution of another id that
-/// writes it whole under number 2.
+/// writes it whole under number 2. The same of the entry: s and g write it whole under numbers 1
+/// and 2, p the half of it under number 2.
 fn record_of(alloc: Global, letter: u8) -> Result<Record, NoMemory> {
     match letter {
-        b'0' => vote(0, 1, numbered(alloc, 0, SIZE)?),
-        b'1' => vote(0, 1, numbered(alloc, 1, SIZE)?),
-        b'h' => vote(0, 1, numbered(alloc, 1, SIZE / 2)?),
+        b'0' => vote(0, 1, numbered(alloc, SLOT, 0, SIZE)?),
+        b'1' => vote(0, 1, numbered(alloc, SLOT, 1, SIZE)?),
+        b'h' => vote(0, 1, numbered(alloc, SLOT, 1, SIZE / 2)?),
+        b's' => vote(0, 1, numbered(alloc, ENTRY, 1, ENTRY_SIZE)?),
+        b'g' => vote(0, 1, numbered(alloc, ENTRY, 2, ENTRY_SIZE)?),
+        b'p' => vote(0, 1, numbered(alloc, ENTRY, 2, ENTRY_SIZE / 2)?),
         b'2' => Ok(Record::Executed {
             tid: tid(2),
-            part: numbered(alloc, 2, SIZE)?,
+            part: numbered(alloc, SLOT, 2, SIZE)?,
         }),
         b'v' => voted(alloc, 0, 1),
         b'w' => voted(alloc, 1, 1),
@@ -129,7 +139,7 @@ const HEADER: &[u8] = &[0x4d, 0x49, 0x4e, 0x55, 0x45, 0x54, 1, 2];
 
 /// A place, and what stands there on node 0 and on node 1.
 const BASE: &[(usize, &[u8], &[u8])] = &[
-    (64, MAIN, &[0; 18]),
+    (64, MAIN, MAIN),
     (0, HEADER, HEADER),
     // The node's number, the count's last byte, the leaf's sequence number and kind, and the last
     // byte.
@@ -221,7 +231,8 @@ fn names_the_least_of_records_that_do_not_fit(rt: HostRuntime) {
     assert!(rt; are_unvoted(rt.alloc(), DO_NOT_FIT));
 }
 
-/// What is held of a committed id writes a page whole, with a greater number than stands there.
+/// What is held of a committed id writes a page or an entry whole, with a greater number than
+/// stands there.
 const DO_NOT_RISE: &[Refused] = &[
     // The number of a free slot, and half a page.
     ("0", "0", 0, 0),
@@ -230,10 +241,24 @@ const DO_NOT_RISE: &[Refused] = &[
     ("hy", "h", 1, 0),
     // A lower number than that of an execution in front of the vote.
     ("21", "1", 0, 1),
+    // An entry under its own number, and half an entry, on each node.
+    ("s", "v", 0, 0),
+    ("v", "s", 1, 0),
+    ("p", "v", 0, 0),
+    ("v", "p", 1, 0),
 ];
 
 /// Votes that rise, and such that need not: the other node has no vote, or both have the decision.
-const RISE: &[(&str, &str)] = &[("1", "1"), ("1y", "1"), ("h", ""), ("hy", "hy"), ("0", "")];
+const RISE: &[(&str, &str)] = &[
+    ("1", "1"),
+    ("1y", "1"),
+    ("h", ""),
+    ("hy", "hy"),
+    ("0", ""),
+    ("g", "g"),
+    ("v", "g"),
+    ("", "s"),
+];
 
 #[test]
 fn what_is_held_of_a_committed_id_has_greater_numbers(rt: HostRuntime) -> Result<(), Fail> {

@@ -91,7 +91,10 @@ entry_given seen entries v e sees at = record {
     fits = let n = long in let low = within in omega arith
 
 pub entries_are_shown : EntriesAreShown
-entries_are_shown es seen entries v e has sees at = (seen, has, entry_given seen entries v e sees at)
+entries_are_shown es seen entries n v e has sees at = (seen, has, inr ((n, v, few, refl), entry_given seen entries v e sees at))
+  where
+    few : v < 64
+    few = let low = slice_get_within entries v e at in let most = sees.1 in omega arith
 
 -- What a list does not show
 

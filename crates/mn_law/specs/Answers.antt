@@ -6,7 +6,7 @@ use Rattle.std.specs.List.{list_all, list_any, flat_map, AllByRecursion}
 use Rattle.byteorder.specs.Endian.{big_bytes}
 use Rattle.mn_base.specs.Ids.{node_same}
 use Rattle.mn_base.specs.Order.{covers_key}
-use Rattle.mn_base.specs.Store.{number_named, op_version}
+use Rattle.mn_base.specs.Store.{number_named, op_version, max_versions}
 use Rattle.mn_base.specs.Tree.{parents_of, has_version}
 use Rattle.mn_base.specs.declared.ids.NodeNo.{NodeNo}
 use Rattle.mn_base.specs.declared.ids.Addr.{Addr}
@@ -31,6 +31,7 @@ use Rattle.mn_page.specs.declared.page.Page.{Page}
 use Rattle.mn_page.specs.declared.entry.CatEntry.{CatEntry}
 use Rattle.mn_page.specs.Grammar.{SpellsPage, height_of}
 use Rattle.mn_page.specs.Space.{count_start, count_size, catalog_start, catalog_size, max_slots}
+use Rattle.mn_page.specs.Space.{entry_start}
 use Rattle.mn_page.specs.Forest.{heads_in, ChildRange, children_of}
 use Rattle.mn_page.specs.Holds.{page_covers}
 use Rattle.mn_runs.specs.declared.entry.Entry.{Entry}
@@ -41,7 +42,7 @@ use Rattle.mn_runs.specs.Calls.{is_down_reply, is_last_of, was_told, was_done, w
 use Rattle.mn_runs.specs.Calls.{issue_in, issues_of, Begun, under_way, since_begin}
 use Rattle.mn_runs.specs.Clients.{is_plan, is_given_up}
 use Rattle.mn_runs.specs.Seen.{Place, Seen, seen_in, seen_at}
-use Rattle.mn_law.specs.Places.{page_place, count_place, catalog_place}
+use Rattle.mn_law.specs.Places.{page_place, count_place, catalog_place, catalog_node, number_size}
 use Rattle.mn_law.specs.Planned.{IsPlanned}
 use Rattle.mn_law.specs.Needs.{NeedsSlots, WritesOld}
 use Rattle.mn_law.specs.Shown.{SeesCatalog, SeesPage, ShowsCatalog, ServesNamed, ReadShows}
@@ -100,12 +101,19 @@ ShowsBytes seens n start bytes =
     (seen : Seen) × Contains seens seen × (seen.place.node ≡ n) × (seen.place.start ≤ start)
     × (bytes_in seen.bytes (start - seen.place.start) (length bytes) ≡ bytes)
 
+-- the same, or the number of an entry was shown on the node from which the catalog is read
+abbrev pub ShowsExpected : List Seen → NodeNo → ℕ → List ℕ → Type 0
+ShowsExpected seens n start bytes =
+    ShowsBytes seens n start bytes
+    ⊎ ((v : ℕ) × (v < max_versions) × (start ≡ entry_start v) × (length bytes ≡ number_size)
+    × ShowsBytes seens catalog_node start bytes)
+
 -- a compare of a part differed, from bytes that a read of this try had shown
 abbrev pub DiffersAs : List Seen → NodeNo → List PartItem → ℕ → List ℕ → Busy → Type 0
 DiffersAs seens n part item found busy =
     (start : ℕ) × (expected : List ℕ)
     × (slice_get (part_compares part) item ≡ Some (start, expected))
-    × ShowsBytes seens n start expected × (busy ≡ Moved n start expected found)
+    × ShowsExpected seens n start expected × (busy ≡ Moved n start expected found)
 
 -- a Prepare or Exec was refused so
 abbrev pub RefusedAs : List Seen → NodeNo → Request → NodeReply → Busy → Type 0

@@ -24,9 +24,13 @@ entry_place n v = record { node = n; start = entry_start v; length = entry_size 
 abbrev pub count_place : NodeNo → Place
 count_place n = record { node = n; start = count_start; length = count_size }
 
--- the node on which the catalog stands
+-- the node from which the catalog is read; each node has it
 abbrev pub catalog_node : NodeNo
 catalog_node = record { 0 = 0 }
+
+-- the same range on that node
+abbrev pub at_catalog : Place → Place
+at_catalog place = record { node = catalog_node; start = place.start; length = place.length }
 
 abbrev pub catalog_place : Place
 catalog_place = record { node = catalog_node; start = catalog_start; length = catalog_size }
@@ -34,9 +38,9 @@ catalog_place = record { node = catalog_node; start = catalog_start; length = ca
 abbrev pub IsPagePlace : Place → Type 0
 IsPagePlace place = (addr : Addr) × (place ≡ page_place addr)
 
--- entries stand on the catalog's node
 abbrev pub IsEntryPlace : Place → Type 0
-IsEntryPlace place = (v : ℕ) × (v < max_versions) × (place ≡ entry_place catalog_node v)
+IsEntryPlace place =
+    (n : NodeNo) × (v : ℕ) × (v < max_versions) × (place ≡ entry_place n v)
 
 abbrev pub IsCountPlace : Place → Type 0
 IsCountPlace place = (n : NodeNo) × (place ≡ count_place n)

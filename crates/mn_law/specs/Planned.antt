@@ -1,7 +1,7 @@
 -- When a minitransaction is a plan of an operation.
 use Rattle.std.specs.Prelude.{ℕ, ◌≡◌, ◌+◌, ◌^◌, ◌<◌, ◌↔◌, ◌⊎◌, Bool, true, false, ◌&&◌, ◌||◌}
 use Rattle.std.specs.Prelude.{nat_lt, nat_eq, IsTrue, List, [], ◌∷◌, ◌++◌, length, map, take, Some}
-use Rattle.std.specs.Prelude.{None, ⊤, if◌then◌else◌, Contains, slice_get}
+use Rattle.std.specs.Prelude.{None, Option, ⊤, if◌then◌else◌, Contains, slice_get, unwrap_or}
 use Rattle.std.specs.List.{list_any, flat_map, AllByRecursion}
 use Rattle.byteorder.specs.Endian.{big_bytes}
 use Rattle.mn_base.specs.Store.{Head, Store, heads_of, number_named, pairs_named, is_change}
@@ -14,7 +14,7 @@ use Rattle.mn_base.specs.declared.op.Op.TheVariants.{Tx, Snapshot, Branch, Scan,
 use Rattle.mn_base.specs.declared.reply.Reply.{Reply}
 use Rattle.mn_mini.specs.declared.item.Item.{Item}
 use Rattle.mn_mini.specs.declared.item.Item.TheVariants.{Compare, Read, Write}
-use Rattle.mn_mini.specs.Mini.{Mini, space_size}
+use Rattle.mn_mini.specs.Mini.{Mini, space_size, item_node}
 use Rattle.mn_mini.specs.Flat.{bytes_in, space_in, mismatch_from, memory_after}
 use Rattle.mn_page.specs.declared.page.Page.{Page}
 use Rattle.mn_page.specs.declared.entry.CatEntry.{CatEntry}
@@ -26,7 +26,7 @@ use Rattle.mn_page.specs.Overlay.{Held}
 use Rattle.mn_page.specs.SlotOrder.{AreInSlotOrder}
 use Rattle.mn_runs.specs.declared.entry.Entry.{Entry}
 use Rattle.mn_runs.specs.Seen.{Place}
-use Rattle.mn_law.specs.Places.{page_place, entry_place, catalog_node, IsPagePlace}
+use Rattle.mn_law.specs.Places.{page_place, entry_place, count_place, catalog_node, IsPagePlace}
 use Rattle.mn_law.specs.Places.{IsEntryPlace, IsCountPlace, IsNumbered, front_place, content_in}
 use Rattle.mn_law.specs.Shown.{ShowsLast, ShowsNumber}
 
@@ -50,6 +50,32 @@ compare_places mini = flat_map compare_place mini.items
 abbrev pub write_places : Mini → List Place
 write_places mini = flat_map write_place mini.items
 
+-- pages stand before entries, and entries before counts
+abbrev pub place_rank : ℕ → ℕ
+place_rank start =
+    if nat_eq start count_start then 2 else (if nat_lt start slots_start then 1 else 0)
+
+abbrev pub item_start : Item → ℕ
+item_start (Compare node start bytes) = start
+item_start (Read node start length) = start
+item_start (Write node start bytes) = start
+
+-- the nodes that items at pages and counts name
+abbrev pub nodes_beside : List Item → List ℕ
+nodes_beside [] = []
+nodes_beside (i ∷ is) =
+    if nat_eq (place_rank (item_start i)) 1 then nodes_beside is
+    else (item_node i).0 ∷ nodes_beside is
+
+abbrev pub lesser : ℕ → Option ℕ → ℕ
+lesser n None = n
+lesser n (Some m) = if nat_lt m n then m else n
+
+-- the least of these numbers
+abbrev pub least_of : List ℕ → Option ℕ
+least_of [] = None
+least_of (n ∷ ns) = Some (lesser n (least_of ns))
+
 -- Which places a plan compares
 
 -- a leaf that serves the version and covers the key of one of these steps
@@ -70,6 +96,11 @@ IsOldPage f mini place =
 abbrev pub IsWrittenCount : Mini → Place → Type 0
 IsWrittenCount mini place = IsCountPlace place × Contains (write_places mini) place
 
+-- the node on which a transaction compares its version's entry: the least one that another item
+-- names; without another item node 0
+abbrev pub entry_node : List Item → NodeNo
+entry_node items = record { 0 = unwrap_or (least_of (nodes_beside items)) 0 }
+
 -- the root page of a version
 abbrev pub IsRootOf : Forest → ℕ → Place → Type 0
 IsRootOf f v place = (e : CatEntry) × (slice_get f.entries v ≡ Some e) × (place ≡ page_place e.root)
@@ -77,7 +108,7 @@ IsRootOf f v place = (e : CatEntry) × (slice_get f.entries v ≡ Some e) × (pl
 abbrev pub IsCompared : Forest → Store → ℕ → Op → Mini → Place → Type 0
 IsCompared f store v (Tx version steps) mini place =
     IsLeafOf f v (steps_run (pairs_named store version) steps) place
-    ⊎ (IsTrue (list_any is_change steps) × (place ≡ entry_place catalog_node v))
+    ⊎ (IsTrue (list_any is_change steps) × (place ≡ entry_place (entry_node mini.items) v))
     ⊎ IsOldPage f mini place
     ⊎ IsWrittenCount mini place
 IsCompared f store v (Snapshot version child) mini place =
@@ -109,11 +140,6 @@ HasNextNumber memory (Read node start length) = ⊤
 HasNextNumber memory (Write node start bytes) =
     IsCountPlace (record { node = node; start = start; length = length bytes })
     ⊎ IsNextNumber (bytes_in (space_in memory node) start (length bytes)) bytes
-
--- pages stand before entries, and entries before counts
-abbrev pub place_rank : ℕ → ℕ
-place_rank start =
-    if nat_eq start count_start then 2 else (if nat_lt start slots_start then 1 else 0)
 
 -- pages by WritesPages, entries by node and then by number, counts by node
 abbrev pub may_precede : NodeNo → ℕ → NodeNo → ℕ → Bool
@@ -160,6 +186,9 @@ pub record WritesPages (f : Forest) (mini : Mini) : Type 0 where
   pub items : AllByRecursion (λ h. IsPage h.page × Contains mini.items (page_write h)) new
   pub in_order : AreInSlotOrder new
   pub no_more : AllByRecursion (λ place. IsPagePlace place → ⊥) others
+  -- a count is written where its node gets a new page
+  pub counted : AllByRecursion (λ place. (n : NodeNo) → place ≡ count_place n
+      → (h : Held) × Contains new h × (h.addr.node ≡ n)) others
 
 -- the range of a whole page, entry or count
 abbrev pub IsWholePlace : Place → Type 0
@@ -197,6 +226,8 @@ pub record PlanActs (memory : List (List ℕ)) (store : Store) (holds : Holds me
       → Contains (compare_places mini) range ↔ IsComparedFront holds.forest store v op mini range
   -- where there is no such version it compares nothing
   pub nowhere : number_named (heads_of store) (op_version op) ≡ None → compare_places mini ≡ []
+  -- no place is compared twice
+  pub apart : ComeOnce (compare_places mini)
   -- each write is of a whole page, entry or count, each of which is written once
   pub wholes : AllByRecursion IsWholePlace (write_places mini)
   pub once : ComeOnce (write_places mini)

@@ -30,7 +30,8 @@ use Rattle.mn_page.specs.Holds.{page_covers, page_serves, pairs_in}
 use Rattle.mn_runs.specs.declared.entry.Entry.{Entry}
 use Rattle.mn_runs.specs.Calls.{calls_of}
 use Rattle.mn_runs.specs.Seen.{Place, Seen, seen_in}
-use Rattle.mn_law.specs.Places.{page_place, entry_place, catalog_node, catalog_place, number_size}
+use Rattle.mn_law.specs.Places.{page_place, entry_place, catalog_place, at_catalog, IsEntryPlace}
+use Rattle.mn_law.specs.Places.{number_size}
 
 -- Bytes that were read
 
@@ -62,17 +63,24 @@ pub record GivesPlace (seen : Seen) (place : Place) (bytes : List ℕ) : Type 0 
   pub ends : place.start + place.length ≤ seen.place.start + length seen.bytes
   pub part : bytes_in seen.bytes (place.start - seen.place.start) place.length ≡ bytes
 
--- the list shows the bytes of a place: a reply in it gives the whole place
+-- a read tells what stands in the place: it gives the whole place, or, of an entry, the whole place
+-- of the same entry on the node from which the catalog is read
+abbrev pub TellsPlace : Seen → Place → List ℕ → Type 0
+TellsPlace seen place bytes =
+    GivesPlace seen place bytes
+    ⊎ (IsEntryPlace place × GivesPlace seen (at_catalog place) bytes)
+
+-- the list shows the bytes of a place: a reply in it tells them
 abbrev pub ShowsPlace : List Entry → Place → List ℕ → Type 0
 ShowsPlace es place bytes =
-    (seen : Seen) × Contains (shown_in es) seen × GivesPlace seen place bytes
+    (seen : Seen) × Contains (shown_in es) seen × TellsPlace seen place bytes
 
--- a read gives the whole place, with bytes that begin so
+-- a read tells bytes of the place that begin so
 abbrev pub GivesFrom : Seen → Place → List ℕ → List ℕ → Type 0
 GivesFrom seen place number bytes =
-    GivesPlace seen place bytes × (take number_size bytes ≡ number)
+    TellsPlace seen place bytes × (take number_size bytes ≡ number)
 
--- of these reads, the first that gives bytes of the place that begin so gives these
+-- of these reads, the first that tells bytes of the place that begin so tells these
 abbrev pub FirstGives : List Seen → Place → List ℕ → List ℕ → Type 0
 FirstGives [] place number bytes = ⊥
 FirstGives (seen ∷ seens) place number bytes =
@@ -208,9 +216,9 @@ ShownStays =
     (newer older : List Entry) (place : Place) (bytes : List ℕ) → ShowsPlace older place bytes
     → ShowsPlace (newer ++ older) place bytes
 
--- a list that shows a catalog shows each entry of it
+-- a list that shows a catalog shows each entry of it, on each node
 abbrev pub EntriesAreShown : Type 0
 EntriesAreShown =
-    (es : List Entry) (seen : Seen) (entries : List CatEntry) (v : ℕ) (e : CatEntry)
+    (es : List Entry) (seen : Seen) (entries : List CatEntry) (n : NodeNo) (v : ℕ) (e : CatEntry)
     → Contains (shown_in es) seen → SeesCatalog seen entries
-    → slice_get entries v ≡ Some e → ShowsPlace es (entry_place catalog_node v) (entry_bytes e)
+    → slice_get entries v ≡ Some e → ShowsPlace es (entry_place n v) (entry_bytes e)

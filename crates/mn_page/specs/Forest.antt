@@ -1,6 +1,6 @@
 -- A forest: the catalog's entries and each node's pages; and the memory that spells it.
 use Rattle.std.specs.Prelude.{ℕ, false, List, [], ◌∷◌, ◌++◌, length, replicate, map, Option, Some}
-use Rattle.std.specs.Prelude.{None, if◌then◌else◌, nat_eq, slice_get, slice_index_or, slice_set}
+use Rattle.std.specs.Prelude.{None, slice_get, slice_index_or, slice_set}
 use Rattle.std.specs.List.{flat_map, range_with_len}
 use Rattle.std.specs.Option.{option_and_then}
 use Rattle.byteorder.specs.Endian.{big_bytes}
@@ -26,10 +26,10 @@ node_count f = length f.pages
 
 -- Memories
 
--- what the spaces of all nodes have: the entries, and for each node its count and its pages, which
--- need not be as many yet
+-- what the spaces of all nodes have: for each node the entries of its catalog, its count and its
+-- pages, which need not be as many yet
 pub record Laid : Type 0 where
-  pub entries : List CatEntry
+  pub catalogs : List (List CatEntry)
   pub counts : List ℕ
   pub pages : List (List Page)
 
@@ -46,9 +46,8 @@ abbrev pub front_of : ℕ → ℕ → ℕ → List ℕ → List ℕ
 front_of nodes n count catalog =
     padded slots_start (head_of nodes n count ++ padded catalog_size catalog)
 
--- the catalog stands on node 0 alone
 abbrev pub catalog_laid : Laid → ℕ → List ℕ
-catalog_laid l n = if nat_eq n 0 then flat_map entry_bytes l.entries else []
+catalog_laid l n = flat_map entry_bytes (slice_index_or l.catalogs n [])
 
 abbrev pub front_laid : Laid → ℕ → List ℕ
 front_laid l n = front_of (length l.pages) n (slice_index_or l.counts n 0) (catalog_laid l n)
@@ -61,10 +60,14 @@ space_laid l n =
 abbrev pub memory_laid : Laid → List (List ℕ)
 memory_laid l = map (space_laid l) (range_with_len 0 (length l.pages))
 
--- a forest, where each count is that of the pages
+-- a forest: each node has the same catalog, and its count is that of its pages
 abbrev pub laid_of : Forest → Laid
 laid_of f =
-    record { entries = f.entries; counts = map (λ pages. length pages) f.pages; pages = f.pages }
+    record {
+      catalogs = map (λ pages. f.entries) f.pages;
+      counts = map (λ pages. length pages) f.pages;
+      pages = f.pages;
+    }
 
 -- the memory that spells the forest
 abbrev pub memory_of : Forest → List (List ℕ)

@@ -1,8 +1,8 @@
 ghost use Rattle.std.specs.Prelude.{◌≡◌, ◌≤◌, ◌<◌, ◌++◌, ◌∷◌, [], length, IfOk, OnOk};
 ghost use Rattle.std.specs.Prelude.{if◌then◌else◌, nat_eq};
 ghost use Rattle.byteorder.specs.Endian.{big_bytes};
-ghost use Rattle.mn_page.specs.Forest.{main_entry, empty_leaf};
-ghost use Rattle.mn_page.specs.Grammar.{entry_bytes, padded, page_bytes};
+ghost use Rattle.mn_page.specs.Forest.{empty_leaf};
+ghost use Rattle.mn_page.specs.Grammar.{padded, page_bytes};
 ghost use Rattle.mn_page.specs.Base.{base_catalog, base_front, base_slots, base_count, base_of};
 ghost use Rattle.mn_page.specs.Space.{space_length};
 
@@ -31,9 +31,9 @@ fn push_number(out: &mut Vec<u8>, number: u64) -> Result<(), AllocError>
     out.extend_from_slice(&bytes)
 }
 
-/// The bytes of the catalog entry of `main`.
-fn main_entry_bytes(alloc: Global) -> Result<Vec<u8>, AllocError>
-    ensures bytes { IfOk result (λ bytes. bytes.items ≡ entry_bytes main_entry) }
+/// The catalog of each node: the entry of `main`.
+fn catalog_bytes(alloc: Global) -> Result<Vec<u8>, AllocError>
+    ensures bytes { IfOk result (λ bytes. bytes.items ≡ base_catalog) }
     ensures whole { IfOk result (λ bytes. length bytes.items ≡ 64) }
 {
     let mut bytes = Vec::new(alloc);
@@ -53,17 +53,6 @@ fn empty_leaf_bytes(alloc: Global) -> Result<Vec<u8>, AllocError>
     bytes.extend_from_slice(&[1, 0, 0, 0, 0, 0, 0, 0, 0, 0, 0, 0, 0, 0, 0])?;
     pad(&mut bytes, 1_024)?;
     Ok(bytes)
-}
-
-/// The catalog: on node 0 it has `main`, on the others nothing.
-fn catalog_bytes(alloc: Global, node: u8) -> Result<Vec<u8>, AllocError>
-    ensures bytes { IfOk result (λ bytes. bytes.items ≡ base_catalog node) }
-    ensures short { IfOk result (λ bytes. length bytes.items ≤ 4096) }
-{
-    if node == 0 {
-        return main_entry_bytes(alloc);
-    }
-    Ok(Vec::new(alloc))
 }
 
 /// The used slots: on node 0 the empty leaf, on the others none.
@@ -89,7 +78,7 @@ fn front_bytes(alloc: Global, node: u8, nodes: u8) -> Result<Vec<u8>, AllocError
     ensures bytes { IfOk result (λ bytes. bytes.items ≡ base_front nodes node) }
     ensures whole { IfOk result (λ bytes. length bytes.items ≡ 20480) }
 {
-    let mut catalog = catalog_bytes(alloc, node)?;
+    let mut catalog = catalog_bytes(alloc)?;
     pad(&mut catalog, 4_096)?;
     let mut front = Vec::new(alloc);
     front.extend_from_slice(&[b'M', b'I', b'N', b'U', b'E', b'T', 1, nodes, node])?;
@@ -101,8 +90,8 @@ fn front_bytes(alloc: Global, node: u8, nodes: u8) -> Result<Vec<u8>, AllocError
     Ok(front)
 }
 
-/// What the space of this node, of so many, begins with: the header, the count, and on node 0 the
-/// entry of `main` and its empty leaf. What follows in the space is zeros. NoMemory: there was no
+/// What the space of this node, of so many, begins with: the header, the count, the entry of `main`,
+/// and on node 0 its empty leaf. What follows in the space is zeros. NoMemory: there was no
 /// memory for it.
 pub fn base_bytes(alloc: Global, node: u8, nodes: u8) -> Result<Vec<u8>, NoMemory>
     requires { 0 < nodes }

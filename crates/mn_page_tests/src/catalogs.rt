@@ -4,7 +4,7 @@ ghost use Rattle.mn_page.specs.Forest.{heads_in};
 
 use mn_base::{Addr, Name, NoMemory, NodeNo, Op, Reply, VersionNo};
 use mn_catalog::{CatError, Catalog};
-use mn_page::Entries;
+use mn_page::{Entries, base_space};
 use std::alloc::Global;
 use std::test::Fail;
 
@@ -36,6 +36,15 @@ fn the_base_catalog_has_main(rt: HostRuntime) -> Result<(), Fail> {
     assert!(rt; catalog.entries().len() == 1);
     assert!(rt; number_of(alloc, &catalog, b"main")? == Some(VersionNo(0)));
     assert!(rt; number_of(alloc, &catalog, b"other")? == None);
+    Ok(())
+}
+
+#[test]
+fn each_node_has_the_base_catalog(rt: HostRuntime) -> Result<(), Fail> {
+    for node in [0u8, 1] {
+        let space = base_space(rt.alloc(), node, 2)?;
+        assert!(rt; &space[64..4_160] == &main_at(0)[..]);
+    }
     Ok(())
 }
 

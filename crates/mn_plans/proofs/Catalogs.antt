@@ -6,19 +6,20 @@ use Rattle.std.proofs.lemmas.List.{take_all, get_or_past}
 use Rattle.std.proofs.lemmas.Option.{slice_get_within, slice_get_cases}
 use Rattle.mn_base.specs.Store.{Store}
 use Rattle.mn_base.specs.declared.ids.Addr.{Addr}
+use Rattle.mn_base.specs.declared.ids.NodeNo.{NodeNo}
 use Rattle.mn_base.proofs.Naturals.{below_or}
 use Rattle.mn_mini.specs.Mini.{space_size}
 use Rattle.mn_mini.specs.Flat.{bytes_in, space_in}
 use Rattle.mn_page.specs.declared.page.Page.{Page}
 use Rattle.mn_page.specs.declared.entry.CatEntry.{CatEntry}
 use Rattle.mn_page.specs.Grammar.{padded, page_bytes, entry_bytes, IsPage, IsEntry}
-use Rattle.mn_page.specs.Forest.{Forest, node_count, head_of, front_of, page_at}
+use Rattle.mn_page.specs.Forest.{Forest, node_count, front_of, page_at}
 use Rattle.mn_page.specs.Holds.{Holds}
 use Rattle.mn_page.proofs.Grid.{all_at_place}
 use Rattle.mn_page.proofs.Spelled.{length-padded, page_length, entry_spelled_once}
 use Rattle.mn_page.proofs.Counted.{counted, IsCounted}
 use Rattle.mn_law.proofs.Pieces.{bytes_in-padded, AreZeros, zeros_behind, length-pieces, read_piece}
-use Rattle.mn_plans.proofs.Spaces.{memory_by_pages, space_bytes, catalog_bytes, entries_length, catalog_length, head_length, front_length, text_length, node_slots, space_in-memory_by_pages, node_0, catalog_region, not_unused, page_there, memory_length}
+use Rattle.mn_plans.proofs.Spaces.{memory_by_pages, space_bytes, catalog_bytes, catalog_length, front_length, text_length, node_slots, node_0, catalog_at, not_unused, page_there, memory_length}
 use Rattle.mn_law.proofs.Pieces.{entry_sizes}
 use Rattle.mn_plans.proofs.Sizes.{index_below}
 use Rattle.mn_plans.proofs.Laying.{laid_is}
@@ -70,15 +71,11 @@ catalog_once es fs alle allf same = same_by_places es fs (one_way es fs alle all
 whole : (n : ℕ) (xs : List ℕ) → length xs ≡ n → bytes_in xs 0 n ≡ xs
 whole n xs l = take_all n xs (omega arith)
 
-pub catalog_stands : (f : Forest) → IsCounted f
-    → bytes_in (space_in (memory_by_pages f) node_0) 64 4096 ≡ padded 4096 (flat_map entry_bytes f.entries)
-catalog_stands f sound =
-    let one = sound.nodes.0 in
-    let fits = entries_length f sound in
-    ap (λ (s : List ℕ). bytes_in s 64 4096) (space_in-memory_by_pages f node_0 one)
-    ∙ (catalog_region (flat_map entry_bytes f.entries) (head_of (node_count f) 0 (length (slice_index_or f.pages 0 []))) (flat_map page_bytes (slice_index_or f.pages 0 [])) 0 4096
-    (head_length (node_count f) 0 (length (slice_index_or f.pages 0 []))) fits (omega arith)
-    ∙ whole 4096 (padded 4096 (flat_map entry_bytes f.entries)) (length-padded 4096 (flat_map entry_bytes f.entries) fits))
+pub catalog_stands : (f : Forest) → IsCounted f → (n : NodeNo) → n.0 < node_count f
+    → bytes_in (space_in (memory_by_pages f) n) 64 4096 ≡ padded 4096 (catalog_bytes f)
+catalog_stands f sound n in' =
+    catalog_at f sound n 0 4096 in' (omega arith)
+    ∙ whole 4096 (padded 4096 (catalog_bytes f)) (length-padded 4096 (catalog_bytes f) (catalog_length f sound))
 
 -- a catalog that was read is the forest's
 pub catalog_tells : (memory : List (List ℕ)) (store : Store) (holds : Holds memory store) (entries : List CatEntry) → AllByRecursion IsEntry entries
@@ -88,7 +85,7 @@ catalog_tells memory store holds entries all read =
     let sound = counted holds.forest holds.sound in
     let spelled : memory ≡ memory_by_pages holds.forest = holds.spelled ∙ laid_is holds.forest in
     catalog_once entries holds.forest.entries all sound.entries
-    (sym read ∙ (ap (λ (m : List (List ℕ)). bytes_in (space_in m node_0) 64 4096) spelled ∙ catalog_stands holds.forest sound))
+    (sym read ∙ (ap (λ (m : List (List ℕ)). bytes_in (space_in m node_0) 64 4096) spelled ∙ catalog_stands holds.forest sound node_0 sound.nodes.0))
 
 -- A page
 
@@ -123,9 +120,9 @@ page_tells memory store holds addr p is read = by (below_or addr.node.0 (node_co
 space_bytes_length : (f : Forest) → IsCounted f → (n : ℕ) → length (space_bytes f n) ≡ 4214784
 space_bytes_length f sound n =
     let few : length (slice_index_or f.pages n []) ≤ 4096 = index_below f.pages n sound.counts in
-    let text = text_length (front_of (node_count f) n (length (slice_index_or f.pages n [])) (catalog_bytes f n)) (slice_index_or f.pages n [])
-    (front_length (node_count f) n (length (slice_index_or f.pages n [])) (catalog_bytes f n) (catalog_length f sound n)) (node_slots f sound n) in
-    length-padded 4214784 (front_of (node_count f) n (length (slice_index_or f.pages n [])) (catalog_bytes f n) ++ flat_map page_bytes (slice_index_or f.pages n []))
+    let text = text_length (front_of (node_count f) n (length (slice_index_or f.pages n [])) (catalog_bytes f)) (slice_index_or f.pages n [])
+    (front_length (node_count f) n (length (slice_index_or f.pages n [])) (catalog_bytes f) (catalog_length f sound)) (node_slots f sound n) in
+    length-padded 4214784 (front_of (node_count f) n (length (slice_index_or f.pages n [])) (catalog_bytes f) ++ flat_map page_bytes (slice_index_or f.pages n []))
     (subst (λ k. k ≤ 4214784) (sym text) (omega arith))
 
 all_range : {X : Type 0} (P : X → Type 0) (g : ℕ → X) → ((n : ℕ) → P (g n)) → (a k : ℕ)

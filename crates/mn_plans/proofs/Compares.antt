@@ -13,7 +13,7 @@ use Rattle.mn_mini.specs.Flat.{bytes_in, space_in, mismatch_from}
 use Rattle.mn_base.proofs.Keys.{bytes_eq-true}
 use Rattle.mn_runs.specs.declared.entry.Entry.{Entry}
 use Rattle.mn_runs.specs.Seen.{Place}
-use Rattle.mn_law.specs.Places.{page_place, entry_place, catalog_node, IsNumbered, front_place, content_in}
+use Rattle.mn_law.specs.Places.{page_place, entry_place, IsNumbered, front_place, content_in}
 use Rattle.mn_law.specs.Shown.{shown_in, ShowsLast, ShowsNumber}
 use Rattle.mn_law.specs.Planned.{place_rank, OnNumber, AgreesWith, ComparesHold, ContinuesCatalog}
 use Rattle.mn_law.proofs.Last.{first_once, first_from}
@@ -52,14 +52,14 @@ same_start p q (inl (a, few, is)) (inl (b, low, that)) node start =
     let at : 20480 + 1024 * a.slot ≡ 20480 + 1024 * b.slot = sym (ap (λ (x : Place). x.start) is) ∙ (start ∙ ap (λ (x : Place). x.start) that) in
     let slot : a.slot ≡ b.slot = omega (arith, at) in
     is ∙ (ap (λ (n : NodeNo). page_place (record { node = n; slot = a.slot })) (sym (ap (λ (x : Place). x.node) is) ∙ (node ∙ ap (λ (x : Place). x.node) that)) ∙ (ap (λ (k : ℕ). page_place (record { node = b.node; slot = k })) slot ∙ sym that))
-same_start p q (inl (a, few, is)) (inr (w, low, that)) node start =
+same_start p q (inl (a, few, is)) (inr (m, w, low, that)) node start =
     let at : 20480 + 1024 * a.slot ≡ 64 + 64 * w = sym (ap (λ (x : Place). x.start) is) ∙ (start ∙ ap (λ (x : Place). x.start) that) in absurd (omega (arith, at, low))
-same_start p q (inr (v, few, is)) (inl (b, low, that)) node start =
+same_start p q (inr (n, v, few, is)) (inl (b, low, that)) node start =
     let at : 64 + 64 * v ≡ 20480 + 1024 * b.slot = sym (ap (λ (x : Place). x.start) is) ∙ (start ∙ ap (λ (x : Place). x.start) that) in absurd (omega (arith, at, few))
-same_start p q (inr (v, few, is)) (inr (w, low, that)) node start =
+same_start p q (inr (n, v, few, is)) (inr (m, w, low, that)) node start =
     let at : 64 + 64 * v ≡ 64 + 64 * w = sym (ap (λ (x : Place). x.start) is) ∙ (start ∙ ap (λ (x : Place). x.start) that) in
     let same : v ≡ w = omega (arith, at) in
-    is ∙ (ap (entry_place catalog_node) same ∙ sym that)
+    is ∙ (ap (λ (o : NodeNo). entry_place o v) (sym (ap (λ (x : Place). x.node) is) ∙ (node ∙ ap (λ (x : Place). x.node) that)) ∙ (ap (entry_place m) same ∙ sym that))
 
 -- what the list shows last with its number, it shows with that number
 pub shows_front : (es : List Entry) (place : Place) (number bytes : List ℕ) → IsNumbered place → ShowsLast es place number bytes → OnNumber (ShowsNumber es) (Compare place.node place.start number)
@@ -74,7 +74,7 @@ count_front es node start bytes is = λ place numbered front. absurd (by place n
   where
     by : (place : Place) → IsNumbered place → place.start ≡ 16 → ⊥
     by place (inl (a, few, at)) e = let begins : 20480 + 1024 * a.slot ≡ 16 = sym (ap (λ (x : Place). x.start) at) ∙ e in absurd (omega (arith, begins))
-    by place (inr (v, few, at)) e = let begins : 64 + 64 * v ≡ 16 = sym (ap (λ (x : Place). x.start) at) ∙ e in absurd (omega (arith, begins))
+    by place (inr (n, v, few, at)) e = let begins : 64 + 64 * v ≡ 16 = sym (ap (λ (x : Place). x.start) at) ∙ e in absurd (omega (arith, begins))
 
 -- Fronts of places
 

@@ -1,25 +1,26 @@
 -- Entries in the memory of a forest: unused places, and writes of entries in their places or behind
 -- the others.
-use Rattle.std.proofs.Common.{◌≡◌, ℕ, zero, suc, ◌+◌, ◌-◌, ◌*◌, ◌<◌, ◌≤◌, inl, inr, List, [], ◌∷◌, ◌++◌, length, map, take, replicate, Some, refl, subst, sym, ap, ◌∙◌, arith, if◌then◌else◌, slice_get, slice_set, slice_index_or}
-use Rattle.std.specs.Prelude.{nat_eq}
-use Rattle.std.specs.List.{AllByRecursion, flat_map}
-use Rattle.std.proofs.lemmas.Bool.{ne_eqb, cases_eq}
-use Rattle.std.proofs.lemmas.List.{length-append, append-nil, take-replicate, drop-replicate}
+use Rattle.std.proofs.Common.{◌≡◌, ℕ, zero, suc, ◌+◌, ◌-◌, ◌*◌, ◌<◌, ◌≤◌, inl, inr, List, [], ◌∷◌, ◌++◌, length, map, take, replicate, Some, refl, subst, sym, ap, ◌∙◌, arith, slice_get, slice_set, slice_index_or}
+use Rattle.std.specs.List.{AllByRecursion, flat_map, range_with_len}
+use Rattle.std.proofs.lemmas.Bool.{cases_eq}
+use Rattle.std.proofs.lemmas.List.{length-append, append_assoc, append-nil, take-replicate, drop-replicate}
 use Rattle.std.proofs.lemmas.List.Concat.{flat_map-append}
 use Rattle.std.proofs.lemmas.Option.{slice_get_cases}
+use Rattle.mn_base.specs.declared.ids.NodeNo.{NodeNo}
 use Rattle.mn_mini.specs.declared.item.Item.{Item}
 use Rattle.mn_mini.specs.Flat.{bytes_in, overwritten, space_in, memory_after}
+use Rattle.mn_page.specs.declared.page.Page.{Page}
 use Rattle.mn_page.specs.declared.entry.CatEntry.{CatEntry}
 use Rattle.mn_page.specs.Grammar.{padded, page_bytes, entry_bytes, IsEntry}
 use Rattle.mn_page.specs.Forest.{Forest, node_count, Laid, head_of, front_of, memory_laid}
 use Rattle.mn_page.proofs.Counted.{IsCounted}
 use Rattle.mn_page.proofs.Grid.{all_at_place}
 use Rattle.mn_page.proofs.Spelled.{length-padded, entry_length}
-use Rattle.mn_plans.specs.Growth.{Numbered, write_numbered, entries_with, entries_after, AreNextEntries}
+use Rattle.mn_plans.specs.Growth.{Numbered, node_no, write_entry, write_entries, entries_with, entries_after, AreNextEntries}
 use Rattle.mn_law.proofs.Pieces.{bytes_in-skip, overwritten-skip, overwritten-within, overwritten-padded, overwritten-end, AreZeros, length-pieces, write_piece}
-use Rattle.mn_plans.proofs.Spaces.{memory_by_pages, space_in-memory_by_pages, head_length, entries_length, node_0, catalog_region, entry_read, not_unused}
+use Rattle.mn_plans.proofs.Spaces.{memory_by_pages, head_length, catalog_at, entry_read, not_unused}
 use Rattle.mn_law.proofs.Pieces.{entry_sizes}
-use Rattle.mn_plans.proofs.Laying.{space_in-laid, laid_set}
+use Rattle.mn_plans.proofs.Laying.{on_each, space_in-laid, laid_set}
 
 -- Unused places
 
@@ -29,24 +30,21 @@ zeros_behind_text a total s k low high =
     ∙ (ap (take k) (drop-replicate (s - length a) (total - length a) 0) ∙ take-replicate k (total - length a - (s - length a)) 0 (omega arith))
 
 -- the places behind the entries have zeros
-pub unused_read : (f : Forest) → IsCounted f → (v : ℕ) → v < 64 → length f.entries ≤ v → bytes_in (space_in (memory_by_pages f) node_0) (64 + 64 * v) 64 ≡ replicate 64 0
-unused_read f sound v few past =
-    let fits = entries_length f sound in
+pub unused_read : (f : Forest) → IsCounted f → (n : NodeNo) (v : ℕ) → n.0 < node_count f → v < 64 → length f.entries ≤ v → bytes_in (space_in (memory_by_pages f) n) (64 + 64 * v) 64 ≡ replicate 64 0
+unused_read f sound n v in' few past =
     let long : length (flat_map entry_bytes f.entries) ≡ 64 * length f.entries = length-pieces entry_bytes 64 f.entries (entry_sizes f.entries sound.entries) in
-    ap (λ (s : List ℕ). bytes_in s (64 + 64 * v) 64) (space_in-memory_by_pages f node_0 sound.nodes.0)
-    ∙ (catalog_region (flat_map entry_bytes f.entries) (head_of (node_count f) 0 (length (slice_index_or f.pages 0 []))) (flat_map page_bytes (slice_index_or f.pages 0 [])) (64 * v) 64
-    (head_length (node_count f) 0 (length (slice_index_or f.pages 0 []))) fits (omega arith)
-    ∙ zeros_behind_text (flat_map entry_bytes f.entries) 4096 (64 * v) 64 (subst (λ k. k ≤ 64 * v) (sym long) (omega arith)) (omega arith))
+    catalog_at f sound n (64 * v) 64 in' (omega arith)
+    ∙ zeros_behind_text (flat_map entry_bytes f.entries) 4096 (64 * v) 64 (subst (λ k. k ≤ 64 * v) (sym long) (omega arith)) (omega arith)
 
 all_zeros : (k : ℕ) → AreZeros (replicate k 0)
 all_zeros zero = tt
 all_zeros (suc k) = (refl, all_zeros k)
 
 -- where zeros stand no version is
-pub none_there : (f : Forest) → IsCounted f → (v : ℕ) → v < 64 → bytes_in (space_in (memory_by_pages f) node_0) (64 + 64 * v) 64 ≡ replicate 64 0 → length f.entries ≤ v
-none_there f sound v few read = elim ((slice_get_cases f.entries v).1) as (λ _. length f.entries ≤ v) [
+pub none_there : (f : Forest) → IsCounted f → (n : NodeNo) (v : ℕ) → n.0 < node_count f → v < 64 → bytes_in (space_in (memory_by_pages f) n) (64 + 64 * v) 64 ≡ replicate 64 0 → length f.entries ≤ v
+none_there f sound n v in' few read = elim ((slice_get_cases f.entries v).1) as (λ _. length f.entries ≤ v) [
   | inl found ↦
-      absurd (not_unused found.0 (all_at_place IsEntry f.entries v found.0 sound.entries found.2) (subst AreZeros (sym read ∙ entry_read f sound v found.0 found.2) (all_zeros 64)))
+      absurd (not_unused found.0 (all_at_place IsEntry f.entries v found.0 sound.entries found.2) (subst AreZeros (sym read ∙ entry_read f sound n v found.0 in' found.2) (all_zeros 64)))
   | inr past ↦ past.0
 ]
 
@@ -126,31 +124,71 @@ region_write catalog now head behind w s l fits in' is =
 
 -- Memories
 
-abbrev pub with_entries : Laid → List CatEntry → Laid
-with_entries l es = record { entries = es; counts = l.counts; pages = l.pages }
+abbrev pub with_catalogs : Laid → List (List CatEntry) → Laid
+with_catalogs l catalogs = record { catalogs = catalogs; counts = l.counts; pages = l.pages }
 
--- the memory with an entry written
-pub entry_over : (l : Laid) → HasEntries l.entries → (v : ℕ) (e : CatEntry) → 1 ≤ length l.pages → v ≤ length l.entries → v < 64 → FillsPlace e
-    → slice_set (memory_laid l) 0 (overwritten (space_in (memory_laid l) node_0) (64 + 64 * v) (entry_bytes e)) ≡ memory_laid (with_entries l (entries_with l.entries v e))
-entry_over l has v e some low few fills =
-    laid_set l (with_entries l (entries_with l.entries v e)) 0 some refl
-    (λ m differ. ap (λ (c : List ℕ). padded 4214784 (front_of (length l.pages) m (slice_index_or l.counts m 0) c ++ flat_map page_bytes (slice_index_or l.pages m [])))
-    (off m differ (flat_map entry_bytes l.entries) ∙ sym (off m differ (flat_map entry_bytes (entries_with l.entries v e)))))
-    (overwritten (space_in (memory_laid l) node_0) (64 + 64 * v) (entry_bytes e))
-    (ap (λ (s : List ℕ). overwritten s (64 + 64 * v) (entry_bytes e)) (space_in-laid l node_0 some)
-    ∙ region_write (flat_map entry_bytes l.entries) (flat_map entry_bytes (entries_with l.entries v e)) (head_of (length l.pages) 0 (slice_index_or l.counts 0 0)) (flat_map page_bytes (slice_index_or l.pages 0 [])) (entry_bytes e) (64 * v)
-    (head_length (length l.pages) 0 (slice_index_or l.counts 0 0)) (entries_fit l.entries has) (subst (λ k. 64 * v + k ≤ 4096) (sym fills) (omega arith)) (catalog_write l.entries v e has low few fills))
+-- one node's catalog, between those of the others
+index_here : (before after : List (List CatEntry)) (es : List CatEntry) → slice_index_or (before ++ es ∷ after) (length before) [] ≡ es
+index_here [] after es = refl
+index_here (x ∷ before) after es = index_here before after es
+
+index_beside : (before after : List (List CatEntry)) (es fs : List CatEntry) (m : ℕ) → (m ≡ length before → ⊥) → slice_index_or (before ++ es ∷ after) m [] ≡ slice_index_or (before ++ fs ∷ after) m []
+index_beside [] after es fs zero differ = absurd (differ refl)
+index_beside [] after es fs (suc m) differ = refl
+index_beside (x ∷ before) after es fs zero differ = refl
+index_beside (x ∷ before) after es fs (suc m) differ = index_beside before after es fs m (λ e. differ (ap suc e))
+
+-- the memory with an entry written on one node
+entry_over : (l : Laid) (before after : List (List CatEntry)) (es : List CatEntry) → HasEntries es → (v : ℕ) (e : CatEntry) → length before < length l.pages → v ≤ length es → v < 64 → FillsPlace e
+    → slice_set (memory_laid (with_catalogs l (before ++ es ∷ after))) (length before)
+    (overwritten (space_in (memory_laid (with_catalogs l (before ++ es ∷ after))) (node_no (length before))) (64 + 64 * v) (entry_bytes e))
+    ≡ memory_laid (with_catalogs l (before ++ entries_with es v e ∷ after))
+entry_over l before after es has v e in' low few fills =
+    laid_set (with_catalogs l (before ++ es ∷ after)) (with_catalogs l (before ++ entries_with es v e ∷ after)) (length before) in' refl
+    (λ m differ. ap (λ (c : List CatEntry). padded 4214784 (front_of (length l.pages) m (slice_index_or l.counts m 0) (flat_map entry_bytes c) ++ flat_map page_bytes (slice_index_or l.pages m [])))
+    (index_beside before after es (entries_with es v e) m differ))
+    (overwritten (space_in (memory_laid (with_catalogs l (before ++ es ∷ after))) (node_no (length before))) (64 + 64 * v) (entry_bytes e))
+    (ap (λ (s : List ℕ). overwritten s (64 + 64 * v) (entry_bytes e)) (space_in-laid (with_catalogs l (before ++ es ∷ after)) (node_no (length before)) in')
+    ∙ (ap (λ (c : List CatEntry). overwritten (laid_with c) (64 + 64 * v) (entry_bytes e)) (index_here before after es)
+    ∙ (region_write (flat_map entry_bytes es) (flat_map entry_bytes (entries_with es v e)) (head_of (length l.pages) (length before) (slice_index_or l.counts (length before) 0)) (flat_map page_bytes (slice_index_or l.pages (length before) [])) (entry_bytes e) (64 * v)
+    (head_length (length l.pages) (length before) (slice_index_or l.counts (length before) 0)) (entries_fit es has) (subst (λ k. 64 * v + k ≤ 4096) (sym fills) (omega arith)) (catalog_write es v e has low few fills)
+    ∙ ap laid_with (sym (index_here before after (entries_with es v e))))))
   where
-    off : (m : ℕ) → (m ≡ 0 → ⊥) → (bytes : List ℕ) → (if nat_eq m 0 then bytes else []) ≡ []
-    off m differ bytes = ap (λ b. if b then bytes else []) (ne_eqb m 0 differ)
+    laid_with : List CatEntry → List ℕ
+    laid_with c = padded 4214784 (front_of (length l.pages) (length before) (slice_index_or l.counts (length before) 0) (flat_map entry_bytes c) ++ flat_map page_bytes (slice_index_or l.pages (length before) []))
 
--- with these entries written, one after another
-pub entries_written : (l : Laid) → HasEntries l.entries → 1 ≤ length l.pages → (ws : List Numbered) → AreNextEntries l.entries ws → (rest : List Item)
-    → memory_after (memory_laid l) (map write_numbered ws ++ rest) ≡ memory_after (memory_laid (with_entries l (entries_after l.entries ws))) rest
-entries_written l has some [] next rest = refl
-entries_written l has some (w ∷ ws) next rest =
-    ap (λ (m : List (List ℕ)). memory_after m (map write_numbered ws ++ rest)) (entry_over l has w.0 w.1 some next.0 next.1 (entry_length w.1 next.2))
-    ∙ entries_written (with_entries l (entries_with l.entries w.0 w.1)) (with_has l.entries w.0 w.1 has next.0 next.1 (entry_length w.1 next.2)) some ws next.3 rest
+-- with entries written on one node, one after another
+node_written : (l : Laid) (before after : List (List CatEntry)) (es : List CatEntry) → HasEntries es → length before < length l.pages → (ws : List Numbered) → AreNextEntries es ws → (rest : List Item)
+    → memory_after (memory_laid (with_catalogs l (before ++ es ∷ after))) (map (λ w. write_entry (node_no (length before)) w.0 w.1) ws ++ rest)
+    ≡ memory_after (memory_laid (with_catalogs l (before ++ entries_after es ws ∷ after))) rest
+node_written l before after es has in' [] next rest = refl
+node_written l before after es has in' (w ∷ ws) next rest =
+    ap (λ (m : List (List ℕ)). memory_after m (map (λ w. write_entry (node_no (length before)) w.0 w.1) ws ++ rest)) (entry_over l before after es has w.0 w.1 in' next.0 next.1 (entry_length w.1 next.2))
+    ∙ node_written l before after (entries_with es w.0 w.1) (with_has es w.0 w.1 has next.0 next.1 (entry_length w.1 next.2)) in' ws next.3 rest
+
+-- with them written on the nodes behind these, by node
+nodes_written : (l : Laid) (before : List (List CatEntry)) (pages : List (List Page)) (es : List CatEntry) → HasEntries es → length before + length pages ≤ length l.pages → (ws : List Numbered) → AreNextEntries es ws → (rest : List Item)
+    → memory_after (memory_laid (with_catalogs l (before ++ on_each pages es))) (flat_map (λ n. map (λ w. write_entry (node_no n) w.0 w.1) ws) (range_with_len (length before) (length pages)) ++ rest)
+    ≡ memory_after (memory_laid (with_catalogs l (before ++ on_each pages (entries_after es ws)))) rest
+nodes_written l before [] es has in' ws next rest = refl
+nodes_written l before (ps ∷ pages) es has in' ws next rest =
+    ap (memory_after (memory_laid (with_catalogs l (before ++ es ∷ on_each pages es))))
+    (append_assoc (on_node (length before)) (flat_map on_node (range_with_len (length before + 1) (length pages))) rest)
+    ∙ (node_written l before (on_each pages es) es has (omega (arith, in')) ws next (flat_map on_node (range_with_len (length before + 1) (length pages)) ++ rest)
+    ∙ (ap (λ (cs : List (List CatEntry)). memory_after (memory_laid (with_catalogs l cs)) (flat_map on_node (range_with_len (length before + 1) (length pages)) ++ rest)) (sym (append_assoc before (entries_after es ws ∷ []) (on_each pages es)))
+    ∙ (ap (λ k. memory_after (memory_laid (with_catalogs l ((before ++ entries_after es ws ∷ []) ++ on_each pages es))) (flat_map on_node (range_with_len k (length pages)) ++ rest)) (sym (length-append before (entries_after es ws ∷ [])))
+    ∙ (nodes_written l (before ++ entries_after es ws ∷ []) pages es has (subst (λ k. k + length pages ≤ length l.pages) (sym (length-append before (entries_after es ws ∷ []))) (omega (arith, in'))) ws next rest
+    ∙ ap (λ (cs : List (List CatEntry)). memory_after (memory_laid (with_catalogs l cs)) rest) (append_assoc before (entries_after es ws ∷ []) (on_each pages (entries_after es ws)))))))
+  where
+    on_node : ℕ → List Item
+    on_node n = map (λ w. write_entry (node_no n) w.0 w.1) ws
+
+-- the memory with these entries written on each node
+pub entries_written : (l : Laid) (es : List CatEntry) → HasEntries es → l.catalogs ≡ on_each l.pages es → (ws : List Numbered) → AreNextEntries es ws → (rest : List Item)
+    → memory_after (memory_laid l) (write_entries (length l.pages) ws ++ rest) ≡ memory_after (memory_laid (with_catalogs l (on_each l.pages (entries_after es ws)))) rest
+entries_written l es has same ws next rest =
+    ap (λ (cs : List (List CatEntry)). memory_after (memory_laid (with_catalogs l cs)) (write_entries (length l.pages) ws ++ rest)) same
+    ∙ nodes_written l [] l.pages es has (omega arith) ws next rest
 
 pub after_has : (es : List CatEntry) (ws : List Numbered) → HasEntries es → AreNextEntries es ws → HasEntries (entries_after es ws)
 after_has es [] has next = has

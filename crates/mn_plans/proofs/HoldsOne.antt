@@ -21,7 +21,7 @@ use Rattle.mn_base.proofs.Keys.{lt_not_same, bytes_eq-true, bytes_eq-refl, key_l
 use Rattle.mn_base.proofs.PairsWith.{ascending_parts, all_above, AllAbove}
 use Rattle.mn_page.proofs.Leaves.{one_leaf, leaf_tells_value}
 use Rattle.mn_plans.proofs.Laying.{laid_is}
-use Rattle.mn_plans.proofs.Spaces.{memory_by_pages, page_there, page_read, page_node, entry_there, entry_read, memory_length}
+use Rattle.mn_plans.proofs.Spaces.{memory_by_pages, page_there, page_read, page_node, node_0, entry_there, entry_read, memory_length}
 use Rattle.mn_plans.proofs.Compares.{element_at}
 use Rattle.mn_page.proofs.Counted.{counted, forest, listed, shows, IsCounted, IsPageIn, ListsStore, serves_in}
 
@@ -86,8 +86,8 @@ entry_kept : (f g : Forest) → IsCounted f → IsCounted g → memory_by_pages 
 entry_kept f g sf sg same v e at =
     let in' = slice_get_within f.entries v e at in
     let few : length f.entries ≤ 64 = subst (λ k. k ≤ 64) (length-map f.entries _) sf.tree.count in
-    entry_there g sg v e (omega arith) (all_at_place IsEntry f.entries v e sf.entries at)
-    (ap (λ (m : List (List ℕ)). Rattle.mn_mini.specs.Flat.bytes_in (Rattle.mn_mini.specs.Flat.space_in m Rattle.mn_plans.proofs.Spaces.node_0) (64 + 64 * v) 64) (sym same) ∙ entry_read f sf v e at)
+    entry_there g sg node_0 v e sg.nodes.0 (omega arith) (all_at_place IsEntry f.entries v e sf.entries at)
+    (ap (λ (m : List (List ℕ)). Rattle.mn_mini.specs.Flat.bytes_in (Rattle.mn_mini.specs.Flat.space_in m node_0) (64 + 64 * v) 64) (sym same) ∙ entry_read f sf node_0 v e sf.nodes.0 at)
 
 fewer : (f g : Forest) → IsCounted f → IsCounted g → memory_by_pages f ≡ memory_by_pages g → (k : ℕ) → length f.entries ≡ k → length f.entries ≤ length g.entries
 fewer f g sf sg same zero l = omega arith

@@ -1,7 +1,6 @@
--- A memory laid out by entries, counts and pages, where the counts need not be the pages' yet: each
--- write of a plan changes one of the three, in any order.
-use Rattle.std.proofs.Common.{◌≡◌, ℕ, zero, suc, ◌+◌, ◌*◌, ◌<◌, ◌≤◌, Bool, true, false, List, [], ◌∷◌, ◌++◌, length, map, Some, refl, subst, sym, ap, ◌∙◌, arith, slice_set, slice_index_or, get_or-set_other, get_or-set_same, if◌then◌else◌}
-use Rattle.std.specs.Prelude.{nat_eq}
+-- A memory laid out by catalogs, counts and pages, where the counts need not be the pages' yet and
+-- the nodes' catalogs may differ: each write of a plan changes one of the three, in any order.
+use Rattle.std.proofs.Common.{◌≡◌, ℕ, zero, suc, ◌+◌, ◌*◌, ◌<◌, ◌≤◌, List, [], ◌∷◌, ◌++◌, length, map, Some, refl, subst, sym, ap, ◌∙◌, arith, slice_set, slice_index_or, get_or-set_other, get_or-set_same}
 use Rattle.std.specs.List.{flat_map, range_with_len}
 use Rattle.std.proofs.lemmas.List.{length-append, length-set, append_assoc, append-nil}
 use Rattle.std.proofs.lemmas.List.Concat.{flat_map-append}
@@ -10,16 +9,17 @@ use Rattle.byteorder.specs.Endian.{big_bytes}
 use Rattle.mn_base.specs.declared.ids.NodeNo.{NodeNo}
 use Rattle.mn_mini.specs.Flat.{overwritten, space_in}
 use Rattle.mn_page.specs.declared.page.Page.{Page}
+use Rattle.mn_page.specs.declared.entry.CatEntry.{CatEntry}
 use Rattle.mn_page.specs.Grammar.{padded, page_bytes, entry_bytes}
 use Rattle.mn_page.specs.Forest.{Forest, node_count, header_bytes, Laid, head_of, front_of, catalog_laid, front_laid, space_laid, memory_laid, laid_of, memory_of}
 use Rattle.mn_page.proofs.Grid.{get_in, set_in, add_in}
 use Rattle.mn_page.proofs.Spelled.{length-padded}
 use Rattle.mn_law.proofs.Pieces.{overwritten-skip, overwritten-within, overwritten-whole, overwritten-padded, overwritten-end}
-use Rattle.mn_plans.proofs.Spaces.{memory_by_pages, space_bytes, head_length, front_length, AreSlots, text_length, slot_write, get_in-index, map_same, set_map, node_slots, entries_length}
+use Rattle.mn_plans.proofs.Spaces.{space_from, memory_by_pages, space_bytes, head_length, front_length, AreSlots, text_length, slot_write, get_in-index, map_same, set_map, node_slots, catalog_length}
 use Rattle.mn_page.proofs.Counted.{IsCounted}
 
 pub record HasSlots (l : Laid) : Type 0 where
-  pub fits : length (flat_map entry_bytes l.entries) ≤ 4096
+  pub fits : (n : ℕ) → length (catalog_laid l n) ≤ 4096
   pub slots : (n : ℕ) → AreSlots (slice_index_or l.pages n [])
 
 pub index-lengths : (xss : List (List Page)) (n : ℕ) → slice_index_or (map (λ ps. length ps) xss) n 0 ≡ length (slice_index_or xss n [])
@@ -27,22 +27,37 @@ index-lengths [] n = refl
 index-lengths (xs ∷ xss) zero = refl
 index-lengths (xs ∷ xss) (suc n) = index-lengths xss n
 
+-- the same entries for each node
+abbrev pub on_each : List (List Page) → List CatEntry → List (List CatEntry)
+on_each pages es = map (λ ps. es) pages
+
+pub index-on_each : (pages : List (List Page)) (es : List CatEntry) (n : ℕ) → n < length pages → slice_index_or (on_each pages es) n [] ≡ es
+index-on_each [] es n in' = absurd (omega arith)
+index-on_each (ps ∷ pages) es zero in' = refl
+index-on_each (ps ∷ pages) es (suc n) in' = index-on_each pages es n (omega arith)
+
+pub on_each_fits : (pages : List (List Page)) (es : List CatEntry) → length (flat_map entry_bytes es) ≤ 4096 → (n : ℕ) → length (flat_map entry_bytes (slice_index_or (on_each pages es) n [])) ≤ 4096
+on_each_fits [] es fits n = omega arith
+on_each_fits (ps ∷ pages) es fits zero = fits
+on_each_fits (ps ∷ pages) es fits (suc n) = on_each_fits pages es fits n
+
+-- for as many nodes
+pub on_as_many : (xss yss : List (List Page)) (es : List CatEntry) → length xss ≡ length yss → on_each xss es ≡ on_each yss es
+on_as_many [] [] es e = refl
+on_as_many [] (ys ∷ yss) es e = absurd (omega arith)
+on_as_many (xs ∷ xss) [] es e = absurd (omega arith)
+on_as_many (xs ∷ xss) (ys ∷ yss) es e = ap (λ (l : List (List CatEntry)). es ∷ l) (on_as_many xss yss es (omega arith))
+
 pub laid_is : (f : Forest) → memory_of f ≡ memory_by_pages f
 laid_is f = map_same (space_laid (laid_of f)) (space_bytes f) 0 (node_count f)
-    (λ m low. ap (λ c. padded 4214784 (front_of (length f.pages) m c (catalog_laid (laid_of f) m) ++ flat_map page_bytes (slice_index_or f.pages m []))) (index-lengths f.pages m))
+    (λ m low high. ap (λ c. padded 4214784 (front_of (length f.pages) m c (catalog_laid (laid_of f) m) ++ flat_map page_bytes (slice_index_or f.pages m []))) (index-lengths f.pages m)
+    ∙ ap (λ (es : List CatEntry). space_from (length f.pages) m (flat_map entry_bytes es) (slice_index_or f.pages m [])) (index-on_each f.pages f.entries m (omega (arith, high))))
 
 pub forest_laid : (f : Forest) → IsCounted f → HasSlots (laid_of f)
-forest_laid f sound = record { fits = entries_length f sound; slots = node_slots f sound }
-
-catalog_fits : (l : Laid) → HasSlots l → (n : ℕ) → length (catalog_laid l n) ≤ 4096
-catalog_fits l is n = cases (nat_eq n 0) is.fits
-  where
-    cases : (b : Bool) → length (flat_map entry_bytes l.entries) ≤ 4096 → length (if b then flat_map entry_bytes l.entries else []) ≤ 4096
-    cases true all = all
-    cases false all = omega arith
+forest_laid f sound = record { fits = on_each_fits f.pages f.entries (catalog_length f sound); slots = node_slots f sound }
 
 front_laid_length : (l : Laid) → HasSlots l → (n : ℕ) → length (front_laid l n) ≡ 20480
-front_laid_length l is n = front_length (length l.pages) n (slice_index_or l.counts n 0) (catalog_laid l n) (catalog_fits l is n)
+front_laid_length l is n = front_length (length l.pages) n (slice_index_or l.counts n 0) (catalog_laid l n) (is.fits n)
 
 pub space_in-laid : (l : Laid) (n : NodeNo) → n.0 < length l.pages → space_in (memory_laid l) n ≡ space_laid l n.0
 space_in-laid l n in' = get_or-map-range_with_len (space_laid l) 0 (length l.pages) n.0 n.0 [] in' (omega arith)
@@ -55,7 +70,7 @@ laid_set l k n in' nodes others bytes here =
 
 -- the same with other pages at one node
 abbrev pub with_pages : Laid → List (List Page) → Laid
-with_pages l pages = record { entries = l.entries; counts = l.counts; pages = pages }
+with_pages l pages = record { catalogs = l.catalogs; counts = l.counts; pages = pages }
 
 pages_set : (l : Laid) (n : NodeNo) (ps : List Page) → n.0 < length l.pages → (bytes : List ℕ) → bytes ≡ padded 4214784 (front_laid l n.0 ++ flat_map page_bytes ps) → slice_set (memory_laid l) n.0 bytes ≡ memory_laid (with_pages l (slice_set l.pages n.0 ps))
 pages_set l n ps in' bytes is =
@@ -96,7 +111,7 @@ page_new l is n slot q in' first room long =
 -- A count
 
 abbrev pub with_counts : Laid → List ℕ → Laid
-with_counts l counts = record { entries = l.entries; counts = counts; pages = l.pages }
+with_counts l counts = record { catalogs = l.catalogs; counts = counts; pages = l.pages }
 
 count_bytes_at : (nodes n old c : ℕ) (catalog behind : List ℕ) → length catalog ≤ 4096 → overwritten (padded 4214784 (front_of nodes n old catalog ++ behind)) 16 (big_bytes 8 c) ≡ padded 4214784 (front_of nodes n c catalog ++ behind)
 count_bytes_at nodes n old c catalog behind fits =
@@ -131,5 +146,5 @@ count_over l is n c in' has =
     (λ m differ. ap (λ k. padded 4214784 (front_of (length l.pages) m k (catalog_laid l m) ++ flat_map page_bytes (slice_index_or l.pages m []))) (sym (get_or-set_other l.counts n.0 m c 0 differ)))
     (overwritten (space_in (memory_laid l) n) 16 (big_bytes 8 c))
     (ap (λ (s : List ℕ). overwritten s 16 (big_bytes 8 c)) (space_in-laid l n in')
-    ∙ (count_bytes_at (length l.pages) n.0 (slice_index_or l.counts n.0 0) c (catalog_laid l n.0) (flat_map page_bytes (slice_index_or l.pages n.0 [])) (catalog_fits l is n.0)
+    ∙ (count_bytes_at (length l.pages) n.0 (slice_index_or l.counts n.0 0) c (catalog_laid l n.0) (flat_map page_bytes (slice_index_or l.pages n.0 [])) (is.fits n.0)
     ∙ ap (λ k. padded 4214784 (front_of (length l.pages) n.0 k (catalog_laid l n.0) ++ flat_map page_bytes (slice_index_or l.pages n.0 []))) (sym (get_or-set_same l.counts n.0 c 0 has))))

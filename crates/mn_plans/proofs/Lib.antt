@@ -2,6 +2,8 @@ pub mod Spaces
 pub mod Laying
 pub mod Sizes
 pub mod Compares
+pub mod Least
+pub mod AlikeEntries
 pub mod Precedes
 pub mod Kept
 pub mod PutInPlace

@@ -1,6 +1,6 @@
 -- A Put in place is planned.
 use Rattle.std.proofs.Common.{◌≡◌, ℕ, zero, suc, ◌+◌, ◌*◌, ◌^◌, ◌<◌, ◌≤◌, ◌⊎◌, inl, inr, Bool, true, false, ◌&&◌, ◌||◌, List, [], ◌∷◌, length, take, drop, length-drop, Option, Some, None, refl, subst, sym, ap, ◌∙◌, arith, slice_get, slice_set, slice_index_or, Contains}
-use Rattle.std.specs.Prelude.{nat_lt, min, IsTrue, ◌↔◌}
+use Rattle.std.specs.Prelude.{nat_lt, min, unwrap_or, if◌then◌else◌, IsTrue, ◌↔◌}
 use Rattle.std.proofs.lemmas.List.{length-take}
 use Rattle.std.specs.Option.{option_map}
 use Rattle.std.proofs.lemmas.Bool.{and_from, or_left}
@@ -35,15 +35,16 @@ use Rattle.mn_base.proofs.PairsWith.{ascending-put, filter-put_inside, filter-pu
 use Rattle.mn_page.proofs.Alike.{Alike, with_page, re_paired, alike_forest, LeafChange, shows_change}
 use Rattle.mn_page.proofs.Spelled.{page_length, entry_spelled_once}
 use Rattle.mn_runs.specs.declared.entry.Entry.{Entry}
-use Rattle.mn_law.specs.Places.{catalog_node, page_place, entry_place, count_place, IsNumbered, front_place}
+use Rattle.mn_law.specs.Places.{page_place, entry_place, count_place, IsNumbered, front_place}
 use Rattle.mn_runs.specs.Seen.{Place}
 use Rattle.mn_law.specs.Shown.{shown_in, ShowsLast, ShowsNumber}
 use Rattle.mn_law.proofs.Last.{first_from}
-use Rattle.mn_law.specs.Planned.{compare_places, IsCompared, IsComparedFront, HasNextNumber, OnNumber, AgreesWith, may_precede, place_rank, ComparesHold, ContinuesCatalog, PlanActs}
+use Rattle.mn_law.specs.Planned.{least_of, compare_places, entry_node, IsCompared, IsComparedFront, HasNextNumber, OnNumber, AgreesWith, may_precede, place_rank, ComparesHold, ContinuesCatalog, PlanActs}
 use Rattle.mn_plans.specs.Plans.{IsLeafWithRoom, next_leaf, put_in_place, compare_page, compare_entry, compare_count, write_page, ShowsPage, ShowsEntry, PutIsPlanned}
 use Rattle.mn_plans.proofs.Laying.{laid_is}
-use Rattle.mn_plans.proofs.Spaces.{memory_by_pages, page_there, page_written, entry_read, node_0, memory_length}
+use Rattle.mn_plans.proofs.Spaces.{memory_by_pages, page_there, page_written, entry_read, memory_length}
 use Rattle.mn_plans.proofs.Compares.{IsMet, compares_met, compared_place, still_named, page_rank, entry_rank, element_at}
+use Rattle.mn_plans.proofs.Least.{beside_page, beside_entry}
 use Rattle.mn_page.proofs.Counted.{counted, forest, listed, shows, IsCounted, IsPageIn, ListsStore, forest_heads, leaf_pairs_are, serves_in}
 
 -- the leaf after a Put
@@ -97,14 +98,14 @@ pub record PutFacts (f : Forest) (store : Store) (name key : List ℕ) (v : ℕ)
 
 pub put_facts : (kept : List Head) (nodes : ℕ) (name key value : List ℕ) (v : ℕ) (e : CatEntry) (addr : Addr) (p : Page) (pairs : List Pair) → IsLeafWithRoom kept nodes name key value v e addr p pairs
     → (f : Forest) (store : Store) → IsCounted f → ListsStore f store → addr.node.0 < length f.pages → ContinuesCatalog kept (heads_of store)
-    → bytes_in (space_in (memory_by_pages f) addr.node) (20480 + 1024 * addr.slot) 1024 ≡ page_bytes p → bytes_in (space_in (memory_by_pages f) node_0) (64 + 64 * v) 64 ≡ entry_bytes e
+    → bytes_in (space_in (memory_by_pages f) addr.node) (20480 + 1024 * addr.slot) 1024 ≡ page_bytes p → bytes_in (space_in (memory_by_pages f) addr.node) (64 + 64 * v) 64 ≡ entry_bytes e
     → PutFacts f store name key v addr p
 put_facts kept nodes name key value v e addr p pairs r f store sound shown in' on page entry =
     let n = named store name v (still_named kept (heads_of store) name v on r.named) in
     let there = page_there f sound addr p in' r.page page in
     let low = version_in f store v n.version (shows f store shown) n.there in
     let at_entry = element_at f.entries v low in
-    let is_entry = entry_spelled_once at_entry.0 e (all_at_place IsEntry f.entries v at_entry.0 sound.entries at_entry.1) r.entry (sym (entry_read f sound v at_entry.0 at_entry.1) ∙ entry) in
+    let is_entry = entry_spelled_once at_entry.0 e (all_at_place IsEntry f.entries v at_entry.0 sound.entries at_entry.1) r.entry (sym (entry_read f sound addr.node v at_entry.0 in' at_entry.1) ∙ entry) in
     let head_at : slice_get (forest_heads f) v ≡ Some (entry_head e) = slice_get-map entry_head f.entries v ∙ (ap (option_map entry_head) at_entry.1 ∙ ap (λ (x : CatEntry). Some (entry_head x)) is_entry) in
     let version_at : slice_get (heads_of store) v ≡ Some n.version.head = slice_get-map (λ (x : StoreVersion). x.head) store v ∙ ap (option_map (λ (x : StoreVersion). x.head)) n.there in
     let both : Some n.version.head ≡ Some (entry_head e) = sym version_at ∙ (ap (λ (hs : List Head). slice_get hs v) shown.heads ∙ head_at) in
@@ -176,43 +177,59 @@ only x place (suc k, in', is) = absurd (omega arith)
 pub front_page : (addr : Addr) (p : Page) → ◌≡◌ {A = Place} (record { node = addr.node; start = 20480 + 1024 * addr.slot; length = length (big_bytes 8 p.seq) }) (front_place (page_place addr))
 front_page addr p = place_same addr.node (20480 + 1024 * addr.slot) (length (big_bytes 8 p.seq)) 8 (length-bytes_high_first 8 p.seq)
 
-pub front_entry : (v : ℕ) (e : CatEntry) → ◌≡◌ {A = Place} (record { node = node_0; start = 64 + 64 * v; length = length (big_bytes 8 e.seq) }) (front_place (entry_place catalog_node v))
-front_entry v e = place_same node_0 (64 + 64 * v) (length (big_bytes 8 e.seq)) 8 (length-bytes_high_first 8 e.seq)
+pub front_entry : (n : NodeNo) (v : ℕ) (e : CatEntry) → ◌≡◌ {A = Place} (record { node = n; start = 64 + 64 * v; length = length (big_bytes 8 e.seq) }) (front_place (entry_place n v))
+front_entry n v e = place_same n (64 + 64 * v) (length (big_bytes 8 e.seq)) 8 (length-bytes_high_first 8 e.seq)
 
-put_compares : (f : Forest) (store : Store) (name key value : List ℕ) (v nodes : ℕ) (e : CatEntry) (addr : Addr) (p q : Page) → length (page_bytes q) ≡ 1024
+-- an entry does not stand where a page does
+pub entry_not_page : (v slot : ℕ) → v < 64 → 64 + 64 * v ≡ 20480 + 1024 * slot → ⊥
+entry_not_page v slot few same = absurd (omega arith)
+
+-- the leaf's node is the only one that is named
+put_node : (v : ℕ) (e : CatEntry) (addr : Addr) (p q : Page) → v < 64 → entry_node (compare_page addr p ∷ compare_entry addr.node v e ∷ write_page addr q ∷ []) ≡ addr.node
+put_node v e addr p q few =
+    ap (λ (ns : List ℕ). let n : NodeNo = record { 0 = unwrap_or (least_of ns) 0 } in n)
+    (beside_page (compare_page addr p) (compare_entry addr.node v e ∷ write_page addr q ∷ []) addr.slot refl
+    ∙ ap (λ (ns : List ℕ). addr.node.0 ∷ ns) (beside_entry (compare_entry addr.node v e) (write_page addr q ∷ []) v few refl ∙ beside_page (write_page addr q) [] addr.slot refl))
+    ∙ same (nat_lt addr.node.0 addr.node.0)
+  where
+    same : (b : Bool) → (record { 0 = if b then addr.node.0 else addr.node.0 }) ≡ addr.node
+    same true = refl
+    same false = refl
+
+put_compares : (f : Forest) (store : Store) (name key value : List ℕ) (v nodes : ℕ) (e : CatEntry) (addr : Addr) (p q : Page) → v < 64 → length (page_bytes q) ≡ 1024
     → PutFacts f store name key v addr p → (range : Place)
-    → Contains (compare_places (record { nodes = nodes; items = compare_page addr p ∷ compare_entry v e ∷ write_page addr q ∷ [] })) range
-    ↔ IsComparedFront f store v (Tx name (Put key value ∷ [])) (record { nodes = nodes; items = compare_page addr p ∷ compare_entry v e ∷ write_page addr q ∷ [] }) range
-put_compares f store name key value v nodes e addr p q lq facts range = (there, back)
+    → Contains (compare_places (record { nodes = nodes; items = compare_page addr p ∷ compare_entry addr.node v e ∷ write_page addr q ∷ [] })) range
+    ↔ IsComparedFront f store v (Tx name (Put key value ∷ [])) (record { nodes = nodes; items = compare_page addr p ∷ compare_entry addr.node v e ∷ write_page addr q ∷ [] }) range
+put_compares f store name key value v nodes e addr p q few lq facts range = (there, back)
   where
     written : ◌≡◌ {A = Place} (record { node = addr.node; start = 20480 + 1024 * addr.slot; length = length (page_bytes q) }) (page_place addr)
     written = place_same addr.node (20480 + 1024 * addr.slot) (length (page_bytes q)) 1024 lq
 
-    there : Contains (compare_places (record { nodes = nodes; items = compare_page addr p ∷ compare_entry v e ∷ write_page addr q ∷ [] })) range
-        → IsComparedFront f store v (Tx name (Put key value ∷ [])) (record { nodes = nodes; items = compare_page addr p ∷ compare_entry v e ∷ write_page addr q ∷ [] }) range
-    there c = elim (two _ _ range c) as (λ _. IsComparedFront f store v (Tx name (Put key value ∷ [])) (record { nodes = nodes; items = compare_page addr p ∷ compare_entry v e ∷ write_page addr q ∷ [] }) range) [
+    there : Contains (compare_places (record { nodes = nodes; items = compare_page addr p ∷ compare_entry addr.node v e ∷ write_page addr q ∷ [] })) range
+        → IsComparedFront f store v (Tx name (Put key value ∷ [])) (record { nodes = nodes; items = compare_page addr p ∷ compare_entry addr.node v e ∷ write_page addr q ∷ [] }) range
+    there c = elim (two _ _ range c) as (λ _. IsComparedFront f store v (Tx name (Put key value ∷ [])) (record { nodes = nodes; items = compare_page addr p ∷ compare_entry addr.node v e ∷ write_page addr q ∷ [] }) range) [
       | inl is ↦ (page_place addr, inl (addr, p, refl, facts.there, facts.leaf.level, facts.serves, or_left _ _ facts.leaf.covers), sym is ∙ front_page addr p)
-      | inr is ↦ (entry_place catalog_node v, inr (inl (refl, refl)), sym is ∙ front_entry v e)
+      | inr is ↦ (entry_place addr.node v, inr (inl (refl, ap (λ (n : NodeNo). entry_place n v) (sym (put_node v e addr p q few)))), sym is ∙ front_entry addr.node v e)
     ]
 
     or_none : (b : Bool) → (b || false) ≡ true → b ≡ true
     or_none true e = refl
     or_none false e = e
 
-    at_first : (place : Place) → page_place addr ≡ place → range ≡ front_place place → Contains (compare_places (record { nodes = nodes; items = compare_page addr p ∷ compare_entry v e ∷ write_page addr q ∷ [] })) range
+    at_first : (place : Place) → page_place addr ≡ place → range ≡ front_place place → Contains (compare_places (record { nodes = nodes; items = compare_page addr p ∷ compare_entry addr.node v e ∷ write_page addr q ∷ [] })) range
     at_first place is front = (0, omega arith, front_page addr p ∙ (ap front_place is ∙ sym front))
 
-    which : (place : Place) → range ≡ front_place place → IsCompared f store v (Tx name (Put key value ∷ [])) (record { nodes = nodes; items = compare_page addr p ∷ compare_entry v e ∷ write_page addr q ∷ [] }) place
-        → Contains (compare_places (record { nodes = nodes; items = compare_page addr p ∷ compare_entry v e ∷ write_page addr q ∷ [] })) range
+    which : (place : Place) → range ≡ front_place place → IsCompared f store v (Tx name (Put key value ∷ [])) (record { nodes = nodes; items = compare_page addr p ∷ compare_entry addr.node v e ∷ write_page addr q ∷ [] }) place
+        → Contains (compare_places (record { nodes = nodes; items = compare_page addr p ∷ compare_entry addr.node v e ∷ write_page addr q ∷ [] })) range
     which place front (inl leaf) =
         let same = facts.one.one.only addr p facts.leaf ∙ sym (facts.one.one.only leaf.0 leaf.1 (record { there = leaf.3; level = leaf.4; serves = leaf.5; covers = or_none _ leaf.6 })) in
         at_first place (ap page_place same ∙ sym leaf.2) front
-    which place front (inr (inl entry)) = (1, omega arith, front_entry v e ∙ (ap front_place (sym entry.1) ∙ sym front))
+    which place front (inr (inl entry)) = (1, omega arith, front_entry addr.node v e ∙ (ap front_place (sym (entry.1 ∙ ap (λ (n : NodeNo). entry_place n v) (put_node v e addr p q few))) ∙ sym front))
     which place front (inr (inr (inl old))) = at_first place (sym written ∙ only _ place old.4) front
     which place front (inr (inr (inr count))) = absurd (not_count addr count.0.0 place (sym written ∙ only _ place count.1) count.0.1)
 
-    back : IsComparedFront f store v (Tx name (Put key value ∷ [])) (record { nodes = nodes; items = compare_page addr p ∷ compare_entry v e ∷ write_page addr q ∷ [] }) range
-        → Contains (compare_places (record { nodes = nodes; items = compare_page addr p ∷ compare_entry v e ∷ write_page addr q ∷ [] })) range
+    back : IsComparedFront f store v (Tx name (Put key value ∷ [])) (record { nodes = nodes; items = compare_page addr p ∷ compare_entry addr.node v e ∷ write_page addr q ∷ [] }) range
+        → Contains (compare_places (record { nodes = nodes; items = compare_page addr p ∷ compare_entry addr.node v e ∷ write_page addr q ∷ [] })) range
     back (place, compared, front) = which place front compared
 
 -- What the memory has where a number is met, and the list has shown it so last
@@ -241,9 +258,9 @@ pub met_page : (es : List Entry) (memory : List (List ℕ)) (addr : Addr) (p : P
     → bytes_in (space_in memory addr.node) (20480 + 1024 * addr.slot) 1024 ≡ page_bytes p
 met_page es memory addr p sizes met agrees shown = compared_place es memory (page_place addr) (big_bytes 8 p.seq) (page_bytes p) (inl (addr, met_slot memory addr p.seq sizes met, refl)) (length-bytes_high_first 8 p.seq) agrees shown
 
-pub met_entry : (es : List Entry) (memory : List (List ℕ)) (v : ℕ) (e : CatEntry) → v < 64 → OnNumber (AgreesWith es memory) (compare_entry v e) → ShowsEntry es v e
-    → bytes_in (space_in memory node_0) (64 + 64 * v) 64 ≡ entry_bytes e
-met_entry es memory v e few agrees shown = compared_place es memory (entry_place catalog_node v) (big_bytes 8 e.seq) (entry_bytes e) (inr (v, few, refl)) (length-bytes_high_first 8 e.seq) agrees shown
+pub met_entry : (es : List Entry) (memory : List (List ℕ)) (n : NodeNo) (v : ℕ) (e : CatEntry) → v < 64 → OnNumber (AgreesWith es memory) (compare_entry n v e) → ShowsEntry es n v e
+    → bytes_in (space_in memory n) (64 + 64 * v) 64 ≡ entry_bytes e
+met_entry es memory n v e few agrees shown = compared_place es memory (entry_place n v) (big_bytes 8 e.seq) (entry_bytes e) (inr (n, v, few, refl)) (length-bytes_high_first 8 e.seq) agrees shown
 
 -- a list that shows a page last with its number shows its number, and so of an entry
 pub shows_number : (es : List Entry) (place : Place) (number bytes : List ℕ) → ShowsLast es place number bytes → ShowsNumber es place number
@@ -255,24 +272,24 @@ page_apart a b e =
     let slot : a.slot ≡ b.slot = omega (arith, start) in
     ap (λ (n : NodeNo). page_place (record { node = n; slot = a.slot })) (ap (λ (x : Place). x.node) e) ∙ ap (λ (s : ℕ). page_place (record { node = b.node; slot = s })) slot
 
-entry_apart : (v w : ℕ) → front_place (entry_place catalog_node v) ≡ front_place (entry_place catalog_node w) → entry_place catalog_node v ≡ entry_place catalog_node w
-entry_apart v w e =
+entry_apart : (n m : NodeNo) (v w : ℕ) → front_place (entry_place n v) ≡ front_place (entry_place m w) → entry_place n v ≡ entry_place m w
+entry_apart n m v w e =
     let start : 64 + 64 * v ≡ 64 + 64 * w = ap (λ (x : Place). x.start) e in
     let same : v ≡ w = omega (arith, start) in
-    ap (entry_place catalog_node) same
+    ap (λ (o : NodeNo). entry_place o v) (ap (λ (x : Place). x.node) e) ∙ ap (entry_place m) same
 
 pub shows_page : (es : List Entry) (addr : Addr) (p : Page) → ShowsPage es addr p → OnNumber (ShowsNumber es) (compare_page addr p)
 shows_page es addr p shown = λ place numbered front. by place numbered (front ∙ front_page addr p)
   where
     by : (place : Place) → IsNumbered place → front_place place ≡ front_place (page_place addr) → ShowsNumber es place (big_bytes 8 p.seq)
     by place (inl (a, few, is)) front = subst (λ (x : Place). ShowsNumber es x (big_bytes 8 p.seq)) (sym (is ∙ page_apart a addr (ap front_place (sym is) ∙ front))) (shows_number es (page_place addr) (big_bytes 8 p.seq) (page_bytes p) shown)
-    by place (inr (v, few, is)) front = let start : 64 + 64 * v ≡ 20480 + 1024 * addr.slot = ap (λ (x : Place). x.start) (ap front_place (sym is) ∙ front) in absurd (omega (arith, start, few))
+    by place (inr (n, v, few, is)) front = let start : 64 + 64 * v ≡ 20480 + 1024 * addr.slot = ap (λ (x : Place). x.start) (ap front_place (sym is) ∙ front) in absurd (omega (arith, start, few))
 
-pub shows_entry : (es : List Entry) (v : ℕ) (e : CatEntry) → v < 64 → ShowsEntry es v e → OnNumber (ShowsNumber es) (compare_entry v e)
-shows_entry es v e low shown = λ place numbered front. by place numbered (front ∙ front_entry v e)
+pub shows_entry : (es : List Entry) (n : NodeNo) (v : ℕ) (e : CatEntry) → v < 64 → ShowsEntry es n v e → OnNumber (ShowsNumber es) (compare_entry n v e)
+shows_entry es n v e low shown = λ place numbered front. by place numbered (front ∙ front_entry n v e)
   where
-    by : (place : Place) → IsNumbered place → front_place place ≡ front_place (entry_place catalog_node v) → ShowsNumber es place (big_bytes 8 e.seq)
-    by place (inr (w, few, is)) front = subst (λ (x : Place). ShowsNumber es x (big_bytes 8 e.seq)) (sym (is ∙ entry_apart w v (ap front_place (sym is) ∙ front))) (shows_number es (entry_place catalog_node v) (big_bytes 8 e.seq) (entry_bytes e) shown)
+    by : (place : Place) → IsNumbered place → front_place place ≡ front_place (entry_place n v) → ShowsNumber es place (big_bytes 8 e.seq)
+    by place (inr (m, w, few, is)) front = subst (λ (x : Place). ShowsNumber es x (big_bytes 8 e.seq)) (sym (is ∙ entry_apart m n w v (ap front_place (sym is) ∙ front))) (shows_number es (entry_place n v) (big_bytes 8 e.seq) (entry_bytes e) shown)
     by place (inl (a, few, is)) front = let start : 20480 + 1024 * a.slot ≡ 64 + 64 * v = ap (λ (x : Place). x.start) (ap front_place (sym is) ∙ front) in absurd (omega (arith, start, low))
 
 -- a count has no number
@@ -281,14 +298,14 @@ shows_count es n count = λ place numbered front. absurd (by place numbered fron
   where
     by : (place : Place) → IsNumbered place → front_place place ≡ record { node = n; start = 16; length = length (big_bytes 8 count) } → ⊥
     by place (inl (a, few, is)) front = let start : 20480 + 1024 * a.slot ≡ 16 = ap (λ (x : Place). x.start) (ap front_place (sym is) ∙ front) in absurd (omega (arith, start))
-    by place (inr (w, few, is)) front = let start : 64 + 64 * w ≡ 16 = ap (λ (x : Place). x.start) (ap front_place (sym is) ∙ front) in absurd (omega (arith, start))
+    by place (inr (m, w, few, is)) front = let start : 64 + 64 * w ≡ 16 = ap (λ (x : Place). x.start) (ap front_place (sym is) ∙ front) in absurd (omega (arith, start))
 
 -- what is named is there
 pub named_not : (v : ℕ) → ◌≡◌ {A = Option ℕ} (Some v) None → ⊥
 named_not v e = cc
 
 put_acts : (kept : List Head) (nodes : ℕ) (name key value : List ℕ) (v : ℕ) (e : CatEntry) (addr : Addr) (p : Page) (pairs : List Pair) → IsLeafWithRoom kept nodes name key value v e addr p pairs
-    → (es : List Entry) → ShowsPage es addr p → ShowsEntry es v e → (memory : List (List ℕ)) (store : Store) → length memory ≡ nodes → AllByRecursion (λ space. length space ≡ 4214784) memory → (holds : Holds memory store) → ContinuesCatalog kept (heads_of store)
+    → (es : List Entry) → ShowsPage es addr p → ShowsEntry es addr.node v e → (memory : List (List ℕ)) (store : Store) → length memory ≡ nodes → AllByRecursion (λ space. length space ≡ 4214784) memory → (holds : Holds memory store) → ContinuesCatalog kept (heads_of store)
     → ComparesHold es memory (put_in_place nodes key value v e addr p pairs).items → PlanActs memory store holds (Tx name (Put key value ∷ [])) (put_in_place nodes key value v e addr p pairs) (Values [])
 put_acts kept nodes name key value v e addr p pairs r es page_shown entry_shown memory store many sizes holds on hold =
     let sound = counted holds.forest holds.sound in
@@ -299,12 +316,12 @@ put_acts kept nodes name key value v e addr p pairs r es page_shown entry_shown 
     let lq : length (page_bytes (new_leaf p pairs key value)) ≡ 1024 = page_length (new_leaf p pairs key value) spelled in
     let mets = compares_met es memory (put_in_place nodes key value v e addr p pairs).items hold in
     let page : bytes_in (space_in memory addr.node) (20480 + 1024 * addr.slot) 1024 ≡ page_bytes p = met_page es memory addr p sizes mets.0 hold.agrees.0 page_shown in
-    let entry : bytes_in (space_in memory node_0) (64 + 64 * v) 64 ≡ entry_bytes e = met_entry es memory v e r.few (hold.agrees.1).0 entry_shown in
+    let entry : bytes_in (space_in memory addr.node) (64 + 64 * v) 64 ≡ entry_bytes e = met_entry es memory addr.node v e r.few (hold.agrees.1).0 entry_shown in
     let nodes_are : nodes ≡ length holds.forest.pages = sym many ∙ (ap (λ (m : List (List ℕ)). length m) is_spelled ∙ memory_length holds.forest) in
     let in' : addr.node.0 < length holds.forest.pages = subst (λ k. addr.node.0 < k) nodes_are r.node in
     let facts = put_facts kept nodes name key value v e addr p pairs r holds.forest store sound shown in' on
     (ap (λ (m : List (List ℕ)). bytes_in (space_in m addr.node) (20480 + 1024 * addr.slot) 1024) (sym is_spelled) ∙ page)
-    (ap (λ (m : List (List ℕ)). bytes_in (space_in m node_0) (64 + 64 * v) 64) (sym is_spelled) ∙ entry) in
+    (ap (λ (m : List (List ℕ)). bytes_in (space_in m addr.node) (64 + 64 * v) 64) (sym is_spelled) ∙ entry) in
     let change = put_change kept nodes name key value v e addr p pairs r holds.forest store sound shown facts in
     let stored = put_store store name key value v facts.named facts.writable in
     record {
@@ -319,8 +336,9 @@ put_acts kept nodes name key value v e addr p pairs r es page_shown entry_shown 
       compares = λ w is place. subst
           (λ k. Contains (compare_places (put_in_place nodes key value v e addr p pairs)) place ↔ IsComparedFront holds.forest store k (Tx name (Put key value ∷ [])) (put_in_place nodes key value v e addr p pairs) place)
           (same_some v w (sym (still_named kept (heads_of store) name v on r.named) ∙ is))
-          (put_compares holds.forest store name key value v nodes e addr p (new_leaf p pairs key value) lq facts place);
+          (put_compares holds.forest store name key value v nodes e addr p (new_leaf p pairs key value) r.few lq facts place);
       nowhere = λ none. absurd (named_not v (sym (still_named kept (heads_of store) name v on r.named) ∙ none));
+      apart = (((λ e. entry_not_page v addr.slot r.few (ap (λ (x : Place). x.start) e)), tt), (tt, tt));
       wholes = (inl (addr, place_same addr.node (20480 + 1024 * addr.slot) (length (page_bytes (new_leaf p pairs key value))) 1024 lq), tt);
       once = (tt, tt);
       numbers = (tt, (tt, (put_numbers memory addr p (new_leaf p pairs key value) page lq refl r.number, tt)));
@@ -334,6 +352,7 @@ put_acts kept nodes name key value v e addr p pairs r es page_shown entry_shown 
         items = tt;
         in_order = tt;
         no_more = tt;
+        counted = tt;
       };
     }
   where
@@ -342,9 +361,9 @@ put_acts kept nodes name key value v e addr p pairs r es page_shown entry_shown 
 
 pub put_is_planned : PutIsPlanned
 put_is_planned kept nodes name key value v e addr p pairs r es page_shown entry_shown = record {
-  shown = (shows_page es addr p page_shown, (shows_entry es v e r.few entry_shown, (tt, tt)));
+  shown = (shows_page es addr p page_shown, (shows_entry es addr.node v e r.few entry_shown, (tt, tt)));
   acts = λ memory store many sizes holds on hold. put_acts kept nodes name key value v e addr p pairs r es page_shown entry_shown memory store many sizes holds on hold;
-  order = and_from (may_precede addr.node (20480 + 1024 * addr.slot) node_0 (64 + 64 * v)) true
+  order = and_from (may_precede addr.node (20480 + 1024 * addr.slot) addr.node (64 + 64 * v)) true
       (or_left (nat_lt (place_rank (20480 + 1024 * addr.slot)) (place_rank (64 + 64 * v))) _ (ap (λ k. nat_lt k (place_rank (64 + 64 * v))) (page_rank addr.slot) ∙ ap (nat_lt 0) (entry_rank v r.few)))
       refl;
   kind = tt;

@@ -1,7 +1,7 @@
 -- What the memory of a forest has at the places of pages and entries, and what a written page makes
 -- of it.
-use Rattle.std.proofs.Common.{◌≡◌, ℕ, zero, suc, ◌+◌, ◌*◌, ◌<◌, ◌≤◌, inl, inr, Bool, true, false, List, [], ◌∷◌, ◌++◌, length, map, take, replicate, Some, refl, subst, sym, ap, ◌∙◌, arith, slice_get, slice_set, slice_index_or, get_or-set_other, get_or-set_same, if◌then◌else◌}
-use Rattle.std.specs.Prelude.{nat_eq, bytes_eq}
+use Rattle.std.proofs.Common.{◌≡◌, ℕ, zero, suc, ◌+◌, ◌*◌, ◌<◌, ◌≤◌, inl, inr, Bool, true, false, List, [], ◌∷◌, ◌++◌, length, map, take, replicate, Some, refl, subst, sym, ap, ◌∙◌, arith, slice_get, slice_set, slice_index_or, get_or-set_other, get_or-set_same}
+use Rattle.std.specs.Prelude.{bytes_eq}
 use Rattle.std.specs.List.{AllByRecursion, flat_map, range_with_len}
 use Rattle.std.proofs.lemmas.List.{length-append, length-set, length-map}
 use Rattle.std.proofs.lemmas.List.FromFn.{get_or-map-range_with_len, length-range_with_len}
@@ -13,10 +13,10 @@ use Rattle.mn_mini.specs.Flat.{bytes_in, overwritten, space_in}
 use Rattle.mn_page.specs.declared.page.Page.{Page}
 use Rattle.mn_page.specs.declared.entry.CatEntry.{CatEntry}
 use Rattle.mn_page.specs.Grammar.{padded, page_bytes, entry_bytes, IsPage, IsEntry}
-use Rattle.mn_page.specs.Forest.{Forest, node_count, header_bytes, head_of, front_of, catalog_laid, laid_of, page_at}
+use Rattle.mn_page.specs.Forest.{Forest, node_count, header_bytes, head_of, front_of, page_at}
 use Rattle.mn_page.proofs.Grid.{get_in, all_at_places, all_at_place, all_by_place}
 use Rattle.mn_page.proofs.Alike.{with_page}
-use Rattle.mn_page.proofs.Spelled.{length-padded, page_length, entry_length, page_spelled_once, entry_spelled_once, big_bytes-inj}
+use Rattle.mn_page.proofs.Spelled.{length-padded, page_length, page_spelled_once, entry_spelled_once, big_bytes-inj}
 use Rattle.mn_law.proofs.Pieces.{bytes_in-skip, bytes_in-within, overwritten-skip, bytes_in-padded, overwritten-padded, AreZeros, zeros_behind, length-pieces, read_piece, write_piece, entry_sizes}
 use Rattle.mn_page.proofs.Counted.{IsCounted, IsPageIn}
 use Rattle.mn_base.specs.Order.{key_lt}
@@ -27,12 +27,13 @@ use Rattle.mn_base.proofs.Keys.{bytes_eq-true, key_lt-trans, key_lt-else}
 abbrev pub space_from : ℕ → ℕ → List ℕ → List Page → List ℕ
 space_from nodes n catalog pages = padded 4214784 (front_of nodes n (length pages) catalog ++ flat_map page_bytes pages)
 
-abbrev pub catalog_bytes : Forest → ℕ → List ℕ
-catalog_bytes f n = catalog_laid (laid_of f) n
+-- the catalog of each node
+abbrev pub catalog_bytes : Forest → List ℕ
+catalog_bytes f = flat_map entry_bytes f.entries
 
 -- the space of a node, with the count of its pages
 abbrev pub space_bytes : Forest → ℕ → List ℕ
-space_bytes f n = space_from (node_count f) n (catalog_bytes f n) (slice_index_or f.pages n [])
+space_bytes f n = space_from (node_count f) n (catalog_bytes f) (slice_index_or f.pages n [])
 
 abbrev pub memory_by_pages : Forest → List (List ℕ)
 memory_by_pages f = map (space_bytes f) (range_with_len 0 (node_count f))
@@ -78,21 +79,10 @@ slot_write front pages slot p q l slots at new =
 
 -- In a forest
 
-pub entries_length : (f : Forest) → IsCounted f → length (flat_map entry_bytes f.entries) ≤ 4096
-entries_length f sound =
+pub catalog_length : (f : Forest) → IsCounted f → length (catalog_bytes f) ≤ 4096
+catalog_length f sound =
     let few : length f.entries ≤ 64 = subst (λ k. k ≤ 64) (length-map f.entries _) sound.tree.count in
-    let is = length-pieces entry_bytes 64 f.entries (sizes f.entries sound.entries) in omega arith
-  where
-    sizes : (es : List CatEntry) → AllByRecursion IsEntry es → AllByRecursion (λ e. length (entry_bytes e) ≡ 64) es
-    sizes [] all = tt
-    sizes (e ∷ es) all = (entry_length e all.0, sizes es all.1)
-
-pub catalog_length : (f : Forest) → IsCounted f → (n : ℕ) → length (catalog_bytes f n) ≤ 4096
-catalog_length f sound n = let all = entries_length f sound in cases (nat_eq n 0) all
-  where
-    cases : (b : Bool) → length (flat_map entry_bytes f.entries) ≤ 4096 → length (if b then flat_map entry_bytes f.entries else []) ≤ 4096
-    cases true all = all
-    cases false all = omega arith
+    let is = length-pieces entry_bytes 64 f.entries (entry_sizes f.entries sound.entries) in omega arith
 
 pub get_in-index : {X : Type 0} (xss : List (List X)) (n s : ℕ) → slice_get (slice_index_or xss n []) s ≡ get_in xss n s
 get_in-index [] n s = refl
@@ -129,8 +119,8 @@ not_free p is z =
 pub page_read : (f : Forest) → IsCounted f → (addr : Addr) (p : Page) → addr.node.0 < node_count f → page_at f addr ≡ Some p → bytes_in (space_in (memory_by_pages f) addr.node) (20480 + 1024 * addr.slot) 1024 ≡ page_bytes p
 page_read f sound addr p in' there =
     ap (λ (s : List ℕ). bytes_in s (20480 + 1024 * addr.slot) 1024) (space_in-memory_by_pages f addr.node in')
-    ∙ slot_read (front_of (node_count f) addr.node.0 (length (slice_index_or f.pages addr.node.0 [])) (catalog_bytes f addr.node.0)) (slice_index_or f.pages addr.node.0 []) addr.slot p
-    (front_length (node_count f) addr.node.0 (length (slice_index_or f.pages addr.node.0 [])) (catalog_bytes f addr.node.0) (catalog_length f sound addr.node.0))
+    ∙ slot_read (front_of (node_count f) addr.node.0 (length (slice_index_or f.pages addr.node.0 [])) (catalog_bytes f)) (slice_index_or f.pages addr.node.0 []) addr.slot p
+    (front_length (node_count f) addr.node.0 (length (slice_index_or f.pages addr.node.0 [])) (catalog_bytes f) (catalog_length f sound))
     (node_slots f sound addr.node.0) (get_in-index f.pages addr.node.0 addr.slot ∙ there)
 
 -- a slot whose bytes spell a page has this page
@@ -143,8 +133,8 @@ page_there f sound addr p in' spelled read =
           there ∙ ap Some (page_spelled_once found.0 p is.page spelled (sym (page_read f sound addr found.0 in' there) ∙ read))
       | inr past ↦
           absurd (not_free p spelled (subst AreZeros (sym (ap (λ (s : List ℕ). bytes_in s (20480 + 1024 * addr.slot) 1024) (space_in-memory_by_pages f addr.node in')) ∙ read)
-          (slot_free (front_of (node_count f) addr.node.0 (length (slice_index_or f.pages addr.node.0 [])) (catalog_bytes f addr.node.0)) (slice_index_or f.pages addr.node.0 []) addr.slot
-          (front_length (node_count f) addr.node.0 (length (slice_index_or f.pages addr.node.0 [])) (catalog_bytes f addr.node.0) (catalog_length f sound addr.node.0))
+          (slot_free (front_of (node_count f) addr.node.0 (length (slice_index_or f.pages addr.node.0 [])) (catalog_bytes f)) (slice_index_or f.pages addr.node.0 []) addr.slot
+          (front_length (node_count f) addr.node.0 (length (slice_index_or f.pages addr.node.0 [])) (catalog_bytes f) (catalog_length f sound))
           (node_slots f sound addr.node.0) past.0)))
     ]
 
@@ -164,21 +154,22 @@ catalog_region catalog head behind s n l fits in' =
     ∙ (bytes_in-padded 20480 (head ++ padded 4096 catalog) (64 + s) n (subst (λ k. 64 + s + n ≤ k) (sym inner) (omega arith))
     ∙ bytes_in-skip head (padded 4096 catalog) (64 + s) s n (ap (λ k. k + s) (sym l))))
 
--- bytes of the catalog
-pub catalog_in : (catalog head behind : List ℕ) (s n : ℕ) → length head ≡ 64 → length catalog ≤ 4096 → s + n ≤ length catalog
-    → bytes_in (padded 4214784 (padded 20480 (head ++ padded 4096 catalog) ++ behind)) (64 + s) n ≡ bytes_in catalog s n
-catalog_in catalog head behind s n l fits in' = catalog_region catalog head behind s n l fits (omega arith) ∙ bytes_in-padded 4096 catalog s n in'
+-- what a node has in the catalog's region
+pub catalog_at : (f : Forest) → IsCounted f → (n : NodeNo) (s k : ℕ) → n.0 < node_count f → s + k ≤ 4096
+    → bytes_in (space_in (memory_by_pages f) n) (64 + s) k ≡ bytes_in (padded 4096 (catalog_bytes f)) s k
+catalog_at f sound n s k in' low =
+    ap (λ (b : List ℕ). bytes_in b (64 + s) k) (space_in-memory_by_pages f n in')
+    ∙ catalog_region (catalog_bytes f) (head_of (node_count f) n.0 (length (slice_index_or f.pages n.0 []))) (flat_map page_bytes (slice_index_or f.pages n.0 [])) s k
+    (head_length (node_count f) n.0 (length (slice_index_or f.pages n.0 []))) (catalog_length f sound) low
 
-pub entry_read : (f : Forest) → IsCounted f → (v : ℕ) (e : CatEntry) → slice_get f.entries v ≡ Some e → bytes_in (space_in (memory_by_pages f) node_0) (64 + 64 * v) 64 ≡ entry_bytes e
-entry_read f sound v e at =
-    let in' = slice_get_within f.entries v e at in
-    let one = sound.nodes.0 in
-    let fits = entries_length f sound in
+-- each entry has its place, on each node
+pub entry_read : (f : Forest) → IsCounted f → (n : NodeNo) (v : ℕ) (e : CatEntry) → n.0 < node_count f → slice_get f.entries v ≡ Some e → bytes_in (space_in (memory_by_pages f) n) (64 + 64 * v) 64 ≡ entry_bytes e
+entry_read f sound n v e in' at =
+    let low = slice_get_within f.entries v e at in
+    let fits = catalog_length f sound in
     let long : length (flat_map entry_bytes f.entries) ≡ 64 * length f.entries = length-pieces entry_bytes 64 f.entries (entry_sizes f.entries sound.entries) in
-    ap (λ (s : List ℕ). bytes_in s (64 + 64 * v) 64) (space_in-memory_by_pages f node_0 one)
-    ∙ (catalog_in (flat_map entry_bytes f.entries) (head_of (node_count f) 0 (length (slice_index_or f.pages 0 []))) (flat_map page_bytes (slice_index_or f.pages 0 [])) (64 * v) 64
-    (head_length (node_count f) 0 (length (slice_index_or f.pages 0 []))) fits (subst (λ k. 64 * v + 64 ≤ k) (sym long) (omega arith))
-    ∙ read_piece entry_bytes 64 f.entries v (64 * v) e (entry_sizes f.entries sound.entries) at refl)
+    catalog_at f sound n (64 * v) 64 in' (omega arith)
+    ∙ (bytes_in-padded 4096 (catalog_bytes f) (64 * v) 64 (subst (λ k. 64 * v + 64 ≤ k) (sym long) (omega arith)) ∙ read_piece entry_bytes 64 f.entries v (64 * v) e (entry_sizes f.entries sound.entries) at refl)
 
 pub not_unused : (e : CatEntry) → IsEntry e → AreZeros (entry_bytes e) → ⊥
 not_unused e is z =
@@ -188,35 +179,31 @@ not_unused e is z =
     let none : e.seq ≡ 0 = big_bytes-inj 8 e.seq 0 (omega arith) (omega arith) seq in absurd (omega arith)
 
 -- the places behind the entries are unused
-pub entry_free : (f : Forest) → IsCounted f → (v : ℕ) → v < 64 → length f.entries ≤ v → AreZeros (bytes_in (space_in (memory_by_pages f) node_0) (64 + 64 * v) 64)
-entry_free f sound v few past =
-    let one = sound.nodes.0 in
-    let fits = entries_length f sound in
+pub entry_free : (f : Forest) → IsCounted f → (n : NodeNo) (v : ℕ) → n.0 < node_count f → v < 64 → length f.entries ≤ v → AreZeros (bytes_in (space_in (memory_by_pages f) n) (64 + 64 * v) 64)
+entry_free f sound n v in' few past =
     let long : length (flat_map entry_bytes f.entries) ≡ 64 * length f.entries = length-pieces entry_bytes 64 f.entries (entry_sizes f.entries sound.entries) in
-    subst AreZeros (sym (ap (λ (s : List ℕ). bytes_in s (64 + 64 * v) 64) (space_in-memory_by_pages f node_0 one)
-    ∙ catalog_region (flat_map entry_bytes f.entries) (head_of (node_count f) 0 (length (slice_index_or f.pages 0 []))) (flat_map page_bytes (slice_index_or f.pages 0 [])) (64 * v) 64
-    (head_length (node_count f) 0 (length (slice_index_or f.pages 0 []))) fits (omega arith)))
-    (zeros_behind 4096 (flat_map entry_bytes f.entries) (64 * v) 64 (subst (λ k. k ≤ 64 * v) (sym long) (omega arith)))
+    subst AreZeros (sym (catalog_at f sound n (64 * v) 64 in' (omega arith)))
+    (zeros_behind 4096 (catalog_bytes f) (64 * v) 64 (subst (λ k. k ≤ 64 * v) (sym long) (omega arith)))
 
 -- a place whose bytes spell an entry has this entry
-pub entry_there : (f : Forest) → IsCounted f → (v : ℕ) (e : CatEntry) → v < 64 → IsEntry e → bytes_in (space_in (memory_by_pages f) node_0) (64 + 64 * v) 64 ≡ entry_bytes e → slice_get f.entries v ≡ Some e
-entry_there f sound v e few spelled read =
+pub entry_there : (f : Forest) → IsCounted f → (n : NodeNo) (v : ℕ) (e : CatEntry) → n.0 < node_count f → v < 64 → IsEntry e → bytes_in (space_in (memory_by_pages f) n) (64 + 64 * v) 64 ≡ entry_bytes e → slice_get f.entries v ≡ Some e
+entry_there f sound n v e in' few spelled read =
     elim ((slice_get_cases f.entries v).1) as (λ _. slice_get f.entries v ≡ Some e) [
-      | inl found ↦ found.2 ∙ ap Some (entry_spelled_once found.0 e (all_at_place IsEntry f.entries v found.0 sound.entries found.2) spelled (sym (entry_read f sound v found.0 found.2) ∙ read))
-      | inr past ↦ absurd (not_unused e spelled (subst AreZeros read (entry_free f sound v few past.0)))
+      | inl found ↦ found.2 ∙ ap Some (entry_spelled_once found.0 e (all_at_place IsEntry f.entries v found.0 sound.entries found.2) spelled (sym (entry_read f sound n v found.0 in' found.2) ∙ read))
+      | inr past ↦ absurd (not_unused e spelled (subst AreZeros read (entry_free f sound n v in' few past.0)))
     ]
 
 -- Writing
 
-pub map_same : {X : Type 0} (g h : ℕ → X) (a k : ℕ) → ((m : ℕ) → a ≤ m → g m ≡ h m) → map g (range_with_len a k) ≡ map h (range_with_len a k)
+pub map_same : {X : Type 0} (g h : ℕ → X) (a k : ℕ) → ((m : ℕ) → a ≤ m → m < a + k → g m ≡ h m) → map g (range_with_len a k) ≡ map h (range_with_len a k)
 map_same g h a zero same = refl
-map_same g h a (suc k) same = let first = same a (omega arith) in let rest = map_same g h (a + 1) k (λ m l. same m (omega arith)) in cc
+map_same g h a (suc k) same = let first = same a (omega arith) (omega arith) in let rest = map_same g h (a + 1) k (λ m l u. same m (omega arith) (omega arith)) in cc
 
 pub set_map : {X : Type 0} (g h : ℕ → X) (a k i : ℕ) → i < k → ((m : ℕ) → (m ≡ a + i → ⊥) → g m ≡ h m) → slice_set (map g (range_with_len a k)) i (h (a + i)) ≡ map h (range_with_len a k)
 set_map g h a zero i in' same = absurd (omega arith)
 set_map g h a (suc k) zero in' same =
     let here : h (a + 0) ≡ h a = ap h (omega arith) in
-    let rest = map_same g h (a + 1) k (λ m l. same m (λ e. absurd (omega arith))) in cc
+    let rest = map_same g h (a + 1) k (λ m l u. same m (λ e. absurd (omega arith))) in cc
 set_map g h a (suc k) (suc i) in' same =
     let first : g a ≡ h a = same a (λ e. absurd (omega arith)) in
     let place : a + 1 + i ≡ a + suc i = omega arith in
@@ -241,22 +228,22 @@ page_written f sound addr p q there spelled =
     let nodes : node_count (with_page f addr q) ≡ node_count f = length-set f.pages addr.node.0 (slice_set (slice_index_or f.pages addr.node.0 []) addr.slot q) in
     space_set f (with_page f addr q) addr.node.0 in' nodes others (overwritten (space_in (memory_by_pages f) addr.node) (20480 + 1024 * addr.slot) (page_bytes q)) (
     ap (λ (s : List ℕ). overwritten s (20480 + 1024 * addr.slot) (page_bytes q)) (space_in-memory_by_pages f addr.node in')
-    ∙ (slot_write (front_of (node_count f) addr.node.0 (length (slice_index_or f.pages addr.node.0 [])) (catalog_bytes f addr.node.0)) (slice_index_or f.pages addr.node.0 []) addr.slot p q
-    (front_length (node_count f) addr.node.0 (length (slice_index_or f.pages addr.node.0 [])) (catalog_bytes f addr.node.0) (catalog_length f sound addr.node.0))
+    ∙ (slot_write (front_of (node_count f) addr.node.0 (length (slice_index_or f.pages addr.node.0 [])) (catalog_bytes f)) (slice_index_or f.pages addr.node.0 []) addr.slot p q
+    (front_length (node_count f) addr.node.0 (length (slice_index_or f.pages addr.node.0 [])) (catalog_bytes f) (catalog_length f sound))
     (node_slots f sound addr.node.0) (get_in-index f.pages addr.node.0 addr.slot ∙ there) (page_length q spelled)
     ∙ sym (here in' nodes)))
   where
     others : (m : ℕ) → (m ≡ addr.node.0 → ⊥) → space_bytes f m ≡ space_bytes (with_page f addr q) m
     others m differ =
-        ap (λ k. space_from k m (catalog_bytes f m) (slice_index_or f.pages m [])) (sym (length-set f.pages addr.node.0 (slice_set (slice_index_or f.pages addr.node.0 []) addr.slot q)))
-        ∙ ap (λ (ps : List Page). space_from (node_count (with_page f addr q)) m (catalog_bytes f m) ps) (sym (get_or-set_other f.pages addr.node.0 m (slice_set (slice_index_or f.pages addr.node.0 []) addr.slot q) [] differ))
+        ap (λ k. space_from k m (catalog_bytes f) (slice_index_or f.pages m [])) (sym (length-set f.pages addr.node.0 (slice_set (slice_index_or f.pages addr.node.0 []) addr.slot q)))
+        ∙ ap (λ (ps : List Page). space_from (node_count (with_page f addr q)) m (catalog_bytes f) ps) (sym (get_or-set_other f.pages addr.node.0 m (slice_set (slice_index_or f.pages addr.node.0 []) addr.slot q) [] differ))
 
     here : addr.node.0 < node_count f → node_count (with_page f addr q) ≡ node_count f → space_bytes (with_page f addr q) addr.node.0
-        ≡ padded 4214784 (front_of (node_count f) addr.node.0 (length (slice_index_or f.pages addr.node.0 [])) (catalog_bytes f addr.node.0) ++ flat_map page_bytes (slice_set (slice_index_or f.pages addr.node.0 []) addr.slot q))
+        ≡ padded 4214784 (front_of (node_count f) addr.node.0 (length (slice_index_or f.pages addr.node.0 [])) (catalog_bytes f) ++ flat_map page_bytes (slice_set (slice_index_or f.pages addr.node.0 []) addr.slot q))
     here in' nodes =
-        ap (λ k. space_from k addr.node.0 (catalog_bytes f addr.node.0) (slice_index_or (with_page f addr q).pages addr.node.0 [])) nodes
-        ∙ (ap (λ (ps : List Page). space_from (node_count f) addr.node.0 (catalog_bytes f addr.node.0) ps) (get_or-set_same f.pages addr.node.0 (slice_set (slice_index_or f.pages addr.node.0 []) addr.slot q) [] in')
-        ∙ ap (λ k. padded 4214784 (front_of (node_count f) addr.node.0 k (catalog_bytes f addr.node.0) ++ flat_map page_bytes (slice_set (slice_index_or f.pages addr.node.0 []) addr.slot q))) (length-set (slice_index_or f.pages addr.node.0 []) addr.slot q))
+        ap (λ k. space_from k addr.node.0 (catalog_bytes f) (slice_index_or (with_page f addr q).pages addr.node.0 [])) nodes
+        ∙ (ap (λ (ps : List Page). space_from (node_count f) addr.node.0 (catalog_bytes f) ps) (get_or-set_same f.pages addr.node.0 (slice_set (slice_index_or f.pages addr.node.0 []) addr.slot q) [] in')
+        ∙ ap (λ k. padded 4214784 (front_of (node_count f) addr.node.0 k (catalog_bytes f) ++ flat_map page_bytes (slice_set (slice_index_or f.pages addr.node.0 []) addr.slot q))) (length-set (slice_index_or f.pages addr.node.0 []) addr.slot q))
 
 pub memory_length : (f : Forest) → length (memory_by_pages f) ≡ node_count f
 memory_length f = length-map (range_with_len 0 (node_count f)) (space_bytes f) ∙ length-range_with_len 0 (node_count f)

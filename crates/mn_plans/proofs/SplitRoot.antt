@@ -15,6 +15,7 @@ use Rattle.mn_base.specs.declared.reply.Pair.{Pair}
 use Rattle.mn_base.specs.declared.op.Step.TheVariants.{Put}
 use Rattle.mn_base.specs.declared.op.Op.TheVariants.{Tx}
 use Rattle.mn_base.specs.declared.reply.Reply.TheVariants.{Values}
+use Rattle.mn_mini.specs.declared.item.Item.{Item}
 use Rattle.mn_mini.specs.Flat.{bytes_in, space_in, overwritten, memory_after}
 use Rattle.mn_page.specs.declared.page.Page.{Page}
 use Rattle.mn_page.specs.declared.page.Body.TheVariants.{Leaf}
@@ -30,19 +31,20 @@ use Rattle.mn_base.proofs.Keys.{not_below, turned}
 use Rattle.mn_base.proofs.PairsWith.{ascending-put, all-put, two_parts}
 use Rattle.mn_base.proofs.Lists.{all_append, all_both}
 use Rattle.mn_page.proofs.Alike.{re_paired, all-set}
-use Rattle.mn_page.proofs.Spelled.{length-padded, page_length, entry_length, entry_spelled_once, big_bytes-inj}
+use Rattle.mn_page.proofs.Spelled.{length-padded, page_length, entry_spelled_once, big_bytes-inj}
 use Rattle.mn_page.proofs.Split.{Split, CanSplit, split_forest, with_root, with_left, new_root, left_page, right_page, split_is_forest, CutPairs, shows_split, old_serves, old_covers, lt_nil}
 use Rattle.mn_runs.specs.declared.entry.Entry.{Entry}
-use Rattle.mn_law.specs.Places.{catalog_node, page_place, entry_place, count_place, front_place}
+use Rattle.mn_law.specs.Places.{page_place, entry_place, count_place, front_place}
 use Rattle.mn_runs.specs.Seen.{Place}
-use Rattle.mn_law.specs.Planned.{compare_places, write_places, IsCompared, IsComparedFront, HasNextNumber, WritesPages, ComparesHold, ContinuesCatalog, PlanActs, place_rank, IsWholePlace, ComeOnce}
-use Rattle.mn_plans.specs.Plans.{write_page, slot_at, left_half, right_half, parent_of_halves, HasSplit, split_items, ShowsPage, ShowsEntry, SplitIsPlanned}
+use Rattle.mn_law.specs.Planned.{nodes_beside, entry_node, compare_places, write_places, IsCompared, IsComparedFront, HasNextNumber, WritesPages, ComparesHold, ContinuesCatalog, PlanActs, place_rank, IsWholePlace, ComeOnce}
+use Rattle.mn_plans.specs.Plans.{compare_page, compare_entry, compare_count, write_page, write_count, slot_at, left_half, right_half, parent_of_halves, lesser_node, HasSplit, split_items, ShowsPage, ShowsEntry, SplitIsPlanned}
 use Rattle.mn_law.proofs.Pieces.{bytes_in-skip, bytes_in-within, bytes_in-padded}
-use Rattle.mn_plans.proofs.Spaces.{memory_by_pages, catalog_bytes, page_there, entry_read, node_0, memory_length, space_in-memory_by_pages, front_length, catalog_length, AreSlots, node_slots, text_length, get_in-index}
-use Rattle.mn_plans.proofs.Laying.{HasSlots, laid_is, forest_laid, page_over, page_new, count_over}
+use Rattle.mn_plans.proofs.Spaces.{memory_by_pages, catalog_bytes, page_there, entry_read, memory_length, space_in-memory_by_pages, front_length, catalog_length, AreSlots, node_slots, text_length, get_in-index}
+use Rattle.mn_plans.proofs.Laying.{HasSlots, on_each, on_as_many, laid_is, forest_laid, page_over, page_new, count_over}
 use Rattle.mn_plans.proofs.Sizes.{index-set_in, index-add_in, sizes_of, sizes-set_in, sizes-add_in, index_below, index-set-all}
 use Rattle.mn_plans.proofs.Compares.{compares_met, fronts_compared, still_named, page_rank, entry_rank, element_at}
-use Rattle.mn_plans.proofs.PutInPlace.{put_store, put_numbers, place_same, named_not, front_page, front_entry, met_page, met_entry, shows_page, shows_entry, shows_count}
+use Rattle.mn_plans.proofs.Least.{entry_node_alike, least_all, beside_page, beside_count, beside_entry}
+use Rattle.mn_plans.proofs.PutInPlace.{put_store, put_numbers, place_same, named_not, front_page, front_entry, entry_not_page, met_page, met_entry, shows_page, shows_entry, shows_count}
 use Rattle.mn_page.proofs.Counted.{counted, forest, listed, shows, IsCounted, ListsStore, forest_heads, leaf_pairs_are}
 
 -- A node's count
@@ -50,8 +52,8 @@ use Rattle.mn_page.proofs.Counted.{counted, forest, listed, shows, IsCounted, Li
 pub count_read : (f : Forest) → IsCounted f → (n : NodeNo) → n.0 < length f.pages → bytes_in (space_in (memory_by_pages f) n) 16 8 ≡ big_bytes 8 (length (slice_index_or f.pages n.0 []))
 count_read f sound n in' =
     ap (λ (s : List ℕ). bytes_in s 16 8) (space_in-memory_by_pages f n in')
-    ∙ deep (header_bytes (length f.pages) n.0) (big_bytes 8 (length (slice_index_or f.pages n.0 []))) (padded 4096 (catalog_bytes f n.0)) (flat_map page_bytes (slice_index_or f.pages n.0 [])) refl refl
-    (front_length (length f.pages) n.0 (length (slice_index_or f.pages n.0 [])) (catalog_bytes f n.0) (catalog_length f sound n.0))
+    ∙ deep (header_bytes (length f.pages) n.0) (big_bytes 8 (length (slice_index_or f.pages n.0 []))) (padded 4096 (catalog_bytes f)) (flat_map page_bytes (slice_index_or f.pages n.0 [])) refl refl
+    (front_length (length f.pages) n.0 (length (slice_index_or f.pages n.0 [])) (catalog_bytes f) (catalog_length f sound))
   where
     deep : (header was catalogs behind : List ℕ) → length header ≡ 16 → length was ≡ 8 → length (padded 20480 (padded 64 (header ++ was) ++ catalogs)) ≡ 20480
         → bytes_in (padded 4214784 (padded 20480 (padded 64 (header ++ was) ++ catalogs) ++ behind)) 16 8 ≡ was
@@ -75,9 +77,9 @@ count_read f sound n in' =
 pub free_read : (f : Forest) → IsCounted f → (n : NodeNo) (slot : ℕ) → n.0 < length f.pages → length (slice_index_or f.pages n.0 []) ≤ slot → slot < 4096 → bytes_in (space_in (memory_by_pages f) n) (20480 + 1024 * slot) 1024 ≡ replicate 1024 0
 free_read f sound n slot in' past room =
     ap (λ (s : List ℕ). bytes_in s (20480 + 1024 * slot) 1024) (space_in-memory_by_pages f n in')
-    ∙ behind (front_of (length f.pages) n.0 (length (slice_index_or f.pages n.0 [])) (catalog_bytes f n.0) ++ flat_map page_bytes (slice_index_or f.pages n.0 [])) 4214784 (20480 + 1024 * slot) 1024
-    (subst (λ k. k ≤ 20480 + 1024 * slot) (sym (text_length (front_of (length f.pages) n.0 (length (slice_index_or f.pages n.0 [])) (catalog_bytes f n.0)) (slice_index_or f.pages n.0 [])
-    (front_length (length f.pages) n.0 (length (slice_index_or f.pages n.0 [])) (catalog_bytes f n.0) (catalog_length f sound n.0)) (node_slots f sound n.0))) (omega arith))
+    ∙ behind (front_of (length f.pages) n.0 (length (slice_index_or f.pages n.0 [])) (catalog_bytes f) ++ flat_map page_bytes (slice_index_or f.pages n.0 [])) 4214784 (20480 + 1024 * slot) 1024
+    (subst (λ k. k ≤ 20480 + 1024 * slot) (sym (text_length (front_of (length f.pages) n.0 (length (slice_index_or f.pages n.0 [])) (catalog_bytes f)) (slice_index_or f.pages n.0 [])
+    (front_length (length f.pages) n.0 (length (slice_index_or f.pages n.0 [])) (catalog_bytes f) (catalog_length f sound)) (node_slots f sound n.0))) (omega arith))
     (omega arith)
   where
     behind : (a : List ℕ) (total s k : ℕ) → length a ≤ s → s + k ≤ total → bytes_in (padded total a) s k ≡ replicate k 0
@@ -186,9 +188,13 @@ filter_every : {X : Type 0} (t : X → Bool) (xs : List X) → ((x : X) → t x 
 filter_every t [] all = refl
 filter_every {X} t (x ∷ xs) all = ap (λ b. Rattle.std.specs.Prelude.cond b (x ∷ filter t xs) (filter t xs)) (all x) ∙ ap (λ (ys : List X). x ∷ ys) (filter_every t xs all)
 
+-- the lesser of two nodes is one of them
+lesser_below : (n m : NodeNo) (nodes : ℕ) → n.0 < nodes → m.0 < nodes → (lesser_node n m).0 < nodes
+lesser_below n m nodes low also = least_all (λ k. k < nodes) (n.0 ∷ m.0 ∷ []) (low, (also, tt)) n.0 low
+
 split_facts : (kept : List Head) (nodes : ℕ) (name key value : List ℕ) (v : ℕ) (e : CatEntry) (p : Page) (pairs : List Pair) (n : NodeNo) (count : ℕ) (lows : List Pair) (first : Pair) (more : List Pair)
     → HasSplit kept nodes name key value v e p pairs n count lows first more → (f : Forest) (store : Store) → IsCounted f → ListsStore f store → nodes ≡ length f.pages → ContinuesCatalog kept (heads_of store)
-    → bytes_in (space_in (memory_by_pages f) e.root.node) (20480 + 1024 * e.root.slot) 1024 ≡ page_bytes p → bytes_in (space_in (memory_by_pages f) node_0) (64 + 64 * v) 64 ≡ entry_bytes e
+    → bytes_in (space_in (memory_by_pages f) e.root.node) (20480 + 1024 * e.root.slot) 1024 ≡ page_bytes p → bytes_in (space_in (memory_by_pages f) (lesser_node e.root.node n)) (64 + 64 * v) 64 ≡ entry_bytes e
     → bytes_in (space_in (memory_by_pages f) n) 16 8 ≡ big_bytes 8 count → SplitFacts f store name v e p pairs n count lows first more
 split_facts kept nodes name key value v e p pairs n count lows first more r f store sound shown many on page entry count_there =
     let nv = named store name v (still_named kept (heads_of store) name v on r.named) in
@@ -196,7 +202,7 @@ split_facts kept nodes name key value v e p pairs n count lows first more r f st
     let in_free : n.0 < length f.pages = subst (λ k. n.0 < k) many r.free_node in
     let there = page_there f sound e.root p in_root r.page page in
     let at_entry = element_at f.entries v (version_in f store v nv.version (shows f store shown) nv.there) in
-    let is_entry = entry_spelled_once at_entry.0 e (all_at_place IsEntry f.entries v at_entry.0 sound.entries at_entry.1) r.entry (sym (entry_read f sound v at_entry.0 at_entry.1) ∙ entry) in
+    let is_entry = entry_spelled_once at_entry.0 e (all_at_place IsEntry f.entries v at_entry.0 sound.entries at_entry.1) r.entry (sym (entry_read f sound (lesser_node e.root.node n) v at_entry.0 (lesser_below e.root.node n (length f.pages) in_root in_free) at_entry.1) ∙ entry) in
     let entry_at : slice_get f.entries v ≡ Some e = at_entry.1 ∙ ap Some is_entry in
     let head_at : slice_get (forest_heads f) v ≡ Some (entry_head e) = slice_get-map entry_head f.entries v ∙ ap (option_map entry_head) entry_at in
     let version_at : slice_get (heads_of store) v ≡ Some nv.version.head = slice_get-map (λ (x : StoreVersion). x.head) store v ∙ ap (option_map (λ (x : StoreVersion). x.head)) nv.there in
@@ -289,16 +295,19 @@ split_memory f v e p n count lows first more can count_is memory same =
     ∙ page_new l2 is2 n (count + 1) (right_page (split_of f e p n count lows first more)) in2 can.right_slot can.right_room right_long in
     let e4 = ap (λ (m : List (List ℕ)). written m n 16 (big_bytes 8 (count + 2))) e3 ∙ count_over l3 is3 n (count + 2) in3 has in
     let sizes : slice_set (sizes_of f.pages) n.0 (count + 2) ≡ sizes_of (split_forest (split_of f e p n count lows first more)).pages = counts can.right_slot in
-    e4 ∙ (ap (λ (ks : List ℕ). memory_laid (record { entries = f.entries; counts = ks; pages = (split_forest (split_of f e p n count lows first more)).pages })) sizes ∙ laid_is (split_forest (split_of f e p n count lows first more)))
+    e4 ∙ (ap (λ (ks : List ℕ). memory_laid (record { catalogs = on_each f.pages f.entries; counts = ks; pages = (split_forest (split_of f e p n count lows first more)).pages })) sizes
+    ∙ (ap (λ (cs : List (List CatEntry)). memory_laid (record { catalogs = cs; counts = sizes_of (split_forest (split_of f e p n count lows first more)).pages; pages = (split_forest (split_of f e p n count lows first more)).pages }))
+    (on_as_many f.pages (split_forest (split_of f e p n count lows first more)).pages f.entries (sym nodes3))
+    ∙ laid_is (split_forest (split_of f e p n count lows first more))))
   where
     l1 : Laid
-    l1 = record { entries = f.entries; counts = sizes_of f.pages; pages = with_root (split_of f e p n count lows first more) }
+    l1 = record { catalogs = on_each f.pages f.entries; counts = sizes_of f.pages; pages = with_root (split_of f e p n count lows first more) }
 
     l2 : Laid
-    l2 = record { entries = f.entries; counts = sizes_of f.pages; pages = with_left (split_of f e p n count lows first more) }
+    l2 = record { catalogs = on_each f.pages f.entries; counts = sizes_of f.pages; pages = with_left (split_of f e p n count lows first more) }
 
     l3 : Laid
-    l3 = record { entries = f.entries; counts = sizes_of f.pages; pages = (split_forest (split_of f e p n count lows first more)).pages }
+    l3 = record { catalogs = on_each f.pages f.entries; counts = sizes_of f.pages; pages = (split_forest (split_of f e p n count lows first more)).pages }
 
     counts : count + 1 ≡ length (slice_index_or (with_left (split_of f e p n count lows first more)) n.0 []) → slice_set (sizes_of f.pages) n.0 (count + 2) ≡ sizes_of (split_forest (split_of f e p n count lows first more)).pages
     counts slot =
@@ -358,14 +367,50 @@ by_rank n m a b x y e f low = or_left (nat_lt (place_rank a) (place_rank b)) _ (
 
 -- The plan
 
+-- the root's node and that of the new pages are the only ones that are named
+split_node : (v : ℕ) (e : CatEntry) (p : Page) (n : NodeNo) (count : ℕ) (lows : List Pair) (first : Pair) (more : List Pair) → v < 64 → entry_node (split_items v e p n count lows first more) ≡ lesser_node e.root.node n
+split_node v e p n count lows first more few =
+    ap (λ (k : ℕ). let m : NodeNo = record { 0 = k } in m)
+    (entry_node_alike (split_items v e p n count lows first more) (e.root.node.0 ∷ n.0 ∷ []) (λ m has. among m (subst (λ (ns : List ℕ). Contains ns m) named has)) (λ m has. subst (λ (ns : List ℕ). Contains ns m) (sym named) (both m has)))
+  where
+    root_now : Page
+    root_now = parent_of_halves p first.key (slot_at n count) (slot_at n (count + 1))
+
+    named : nodes_beside (split_items v e p n count lows first more) ≡ e.root.node.0 ∷ n.0 ∷ e.root.node.0 ∷ n.0 ∷ n.0 ∷ n.0 ∷ []
+    named =
+        beside_page (compare_page e.root p) (compare_entry (lesser_node e.root.node n) v e ∷ compare_count n count ∷ writes) e.root.slot refl
+        ∙ ap (λ (ns : List ℕ). e.root.node.0 ∷ ns) (beside_entry (compare_entry (lesser_node e.root.node n) v e) (compare_count n count ∷ writes) v few refl
+        ∙ (beside_count (compare_count n count) writes refl
+        ∙ ap (λ (ns : List ℕ). n.0 ∷ ns) (beside_page (write_page e.root root_now) (write_page (slot_at n count) (left_half p lows first.key) ∷ write_page (slot_at n (count + 1)) (right_half p (first ∷ more) first.key) ∷ write_count n (count + 2) ∷ []) e.root.slot refl
+        ∙ ap (λ (ns : List ℕ). e.root.node.0 ∷ ns) (beside_page (write_page (slot_at n count) (left_half p lows first.key)) (write_page (slot_at n (count + 1)) (right_half p (first ∷ more) first.key) ∷ write_count n (count + 2) ∷ []) count refl
+        ∙ ap (λ (ns : List ℕ). n.0 ∷ ns) (beside_page (write_page (slot_at n (count + 1)) (right_half p (first ∷ more) first.key)) (write_count n (count + 2) ∷ []) (count + 1) refl
+        ∙ ap (λ (ns : List ℕ). n.0 ∷ ns) (beside_count (write_count n (count + 2)) [] refl))))))
+      where
+        writes : List Item
+        writes = write_page e.root root_now ∷ write_page (slot_at n count) (left_half p lows first.key) ∷ write_page (slot_at n (count + 1)) (right_half p (first ∷ more) first.key) ∷ write_count n (count + 2) ∷ []
+
+    among : (m : ℕ) → Contains (e.root.node.0 ∷ n.0 ∷ e.root.node.0 ∷ n.0 ∷ n.0 ∷ n.0 ∷ []) m → Contains (e.root.node.0 ∷ n.0 ∷ []) m
+    among m (zero, in', is) = (0, omega arith, is)
+    among m (suc zero, in', is) = (1, omega arith, is)
+    among m (suc (suc zero), in', is) = (0, omega arith, is)
+    among m (suc (suc (suc zero)), in', is) = (1, omega arith, is)
+    among m (suc (suc (suc (suc zero))), in', is) = (1, omega arith, is)
+    among m (suc (suc (suc (suc (suc zero)))), in', is) = (1, omega arith, is)
+    among m (suc (suc (suc (suc (suc (suc k))))), in', is) = absurd (omega arith)
+
+    both : (m : ℕ) → Contains (e.root.node.0 ∷ n.0 ∷ []) m → Contains (e.root.node.0 ∷ n.0 ∷ e.root.node.0 ∷ n.0 ∷ n.0 ∷ n.0 ∷ []) m
+    both m (zero, in', is) = (0, omega arith, is)
+    both m (suc zero, in', is) = (1, omega arith, is)
+    both m (suc (suc k), in', is) = absurd (omega arith)
+
 abbrev compared_places : ℕ → CatEntry → Page → NodeNo → ℕ → List Place
-compared_places v e p n count = page_place e.root ∷ (entry_place catalog_node v ∷ (count_place n ∷ []))
+compared_places v e p n count = page_place e.root ∷ (entry_place (lesser_node e.root.node n) v ∷ (count_place n ∷ []))
 
 split_compares : (f : Forest) (store : Store) (name key value : List ℕ) (v nodes : ℕ) (e : CatEntry) (p : Page) (pairs : List Pair) (n : NodeNo) (count : ℕ) (lows : List Pair) (first : Pair) (more : List Pair)
-    → ListsStore f store → SplitFacts f store name v e p pairs n count lows first more → length (page_bytes p) ≡ 1024 → length (entry_bytes e) ≡ 64 → (place : Place)
+    → v < 64 → ListsStore f store → SplitFacts f store name v e p pairs n count lows first more → (place : Place)
     → Contains (compared_places v e p n count) place
     ↔ IsCompared f store v (Tx name (Put key value ∷ [])) (record { nodes = nodes; items = split_items v e p n count lows first more }) place
-split_compares f store name key value v nodes e p pairs n count lows first more shown facts lp le place = (there, back)
+split_compares f store name key value v nodes e p pairs n count lows first more few shown facts place = (there, back)
   where
     s_can : CanSplit (split_of f e p n count lows first more) v e (entry_head e)
     s_can = facts.can
@@ -373,8 +418,8 @@ split_compares f store name key value v nodes e p pairs n count lows first more 
     first_is : ◌≡◌ {A = Place} (page_place e.root) (page_place e.root)
     first_is = refl
 
-    second_is : ◌≡◌ {A = Place} (entry_place catalog_node v) (entry_place catalog_node v)
-    second_is = refl
+    second_is : ◌≡◌ {A = Place} (entry_place (lesser_node e.root.node n) v) (entry_place (entry_node (split_items v e p n count lows first more)) v)
+    second_is = ap (λ (m : NodeNo). entry_place m v) (sym (split_node v e p n count lows first more few))
 
     third_is : ◌≡◌ {A = Place} (count_place n) (count_place n)
     third_is = refl
@@ -479,6 +524,7 @@ split_pages f v nodes e p n count lows first more can count_is lp =
       items = ((can.left_spelled, (4, omega arith, refl)), ((can.right_spelled, (5, omega arith, refl)), tt));
       in_order = ((lt_nil first.key, tt), (tt, tt));
       no_more = ((λ is. page_not_count is.0 n (sym is.1)), tt);
+      counted = ((λ m is. (record { addr = slot_at n count; page = left_page (split_of f e p n count lows first more) }, (0, omega arith, refl), ap (λ (x : Place). x.node) is)), tt);
     }
   where
     four_same : {a b c x y z : Place} → a ≡ x → b ≡ y → c ≡ z → ◌≡◌ {A = List Place} (a ∷ b ∷ c ∷ count_place n ∷ []) (x ∷ y ∷ z ∷ count_place n ∷ [])
@@ -523,7 +569,7 @@ split_once f v nodes e p n count lows first more can count_is =
     four_same p q r = cc
 
 split_acts : (kept : List Head) (nodes : ℕ) (name key value : List ℕ) (v : ℕ) (e : CatEntry) (p : Page) (pairs : List Pair) (n : NodeNo) (count : ℕ) (lows : List Pair) (first : Pair) (more : List Pair)
-    → HasSplit kept nodes name key value v e p pairs n count lows first more → (es : List Entry) → ShowsPage es e.root p → ShowsEntry es v e → (memory : List (List ℕ)) (store : Store) → length memory ≡ nodes → AllByRecursion (λ space. length space ≡ 4214784) memory → (holds : Holds memory store) → ContinuesCatalog kept (heads_of store)
+    → HasSplit kept nodes name key value v e p pairs n count lows first more → (es : List Entry) → ShowsPage es e.root p → ShowsEntry es (lesser_node e.root.node n) v e → (memory : List (List ℕ)) (store : Store) → length memory ≡ nodes → AllByRecursion (λ space. length space ≡ 4214784) memory → (holds : Holds memory store) → ContinuesCatalog kept (heads_of store)
     → ComparesHold es memory (split_items v e p n count lows first more)
     → PlanActs memory store holds (Tx name (Put key value ∷ [])) (record { nodes = nodes; items = split_items v e p n count lows first more }) (Values [])
 split_acts kept nodes name key value v e p pairs n count lows first more r es page_shown entry_shown memory store many sizes holds on hold =
@@ -531,15 +577,14 @@ split_acts kept nodes name key value v e p pairs n count lows first more r es pa
     let shown = listed holds.forest store holds.shown in
     let is_spelled : memory ≡ memory_by_pages holds.forest = holds.spelled ∙ laid_is holds.forest in
     let lp : length (page_bytes p) ≡ 1024 = page_length p r.page in
-    let le : length (entry_bytes e) ≡ 64 = entry_length e r.entry in
     let mets = compares_met es memory (split_items v e p n count lows first more) hold in
     let page : bytes_in (space_in memory e.root.node) (20480 + 1024 * e.root.slot) 1024 ≡ page_bytes p = met_page es memory e.root p sizes mets.0 hold.agrees.0 page_shown in
-    let entry : bytes_in (space_in memory node_0) (64 + 64 * v) 64 ≡ entry_bytes e = met_entry es memory v e r.few (hold.agrees.1).0 entry_shown in
+    let entry : bytes_in (space_in memory (lesser_node e.root.node n)) (64 + 64 * v) 64 ≡ entry_bytes e = met_entry es memory (lesser_node e.root.node n) v e r.few (hold.agrees.1).0 entry_shown in
     let count_there : bytes_in (space_in memory n) 16 8 ≡ big_bytes 8 count = ((mets.1).1).0 in
     let nodes_are : nodes ≡ length holds.forest.pages = sym many ∙ (ap (λ (m : List (List ℕ)). length m) is_spelled ∙ memory_length holds.forest) in
     let facts = split_facts kept nodes name key value v e p pairs n count lows first more r holds.forest store sound shown nodes_are on
     (ap (λ (m : List (List ℕ)). bytes_in (space_in m e.root.node) (20480 + 1024 * e.root.slot) 1024) (sym is_spelled) ∙ page)
-    (ap (λ (m : List (List ℕ)). bytes_in (space_in m node_0) (64 + 64 * v) 64) (sym is_spelled) ∙ entry)
+    (ap (λ (m : List (List ℕ)). bytes_in (space_in m (lesser_node e.root.node n)) (64 + 64 * v) 64) (sym is_spelled) ∙ entry)
     (ap (λ (m : List (List ℕ)). bytes_in (space_in m n) 16 8) (sym is_spelled) ∙ count_there) in
     let can = facts.can in
     let stored = put_store store name key value v facts.named facts.writable in
@@ -558,9 +603,9 @@ split_acts kept nodes name key value v e p pairs n count lows first more r es pa
       compares = λ w is range. subst
           (λ k. Contains (compare_places (record { nodes = nodes; items = split_items v e p n count lows first more })) range ↔ IsComparedFront holds.forest store k (Tx name (Put key value ∷ [])) (record { nodes = nodes; items = split_items v e p n count lows first more }) range)
           (same_some v w (sym (still_named kept (heads_of store) name v on r.named) ∙ is))
-          (subst (λ (l : List Place). Contains l range ↔ IsComparedFront holds.forest store v (Tx name (Put key value ∷ [])) (record { nodes = nodes; items = split_items v e p n count lows first more }) range) (sym (three_same (front_page e.root p) (front_entry v e)))
+          (subst (λ (l : List Place). Contains l range ↔ IsComparedFront holds.forest store v (Tx name (Put key value ∷ [])) (record { nodes = nodes; items = split_items v e p n count lows first more }) range) (sym (three_same (front_page e.root p) (front_entry (lesser_node e.root.node n) v e)))
           (fronts_compared (compared_places v e p n count) (IsCompared holds.forest store v (Tx name (Put key value ∷ [])) (record { nodes = nodes; items = split_items v e p n count lows first more }))
-          (λ place. split_compares holds.forest store name key value v nodes e p pairs n count lows first more shown facts lp le place) range));
+          (λ place. split_compares holds.forest store name key value v nodes e p pairs n count lows first more r.few shown facts place) range));
       numbers = (
         tt,
         (
@@ -588,6 +633,10 @@ split_acts kept nodes name key value v e p pairs n count lows first more r es pa
         ),
       );
       nowhere = λ none. absurd (named_not v (sym (still_named kept (heads_of store) name v on r.named) ∙ none));
+      apart = (
+        ((λ e. entry_not_page v root_slot r.few (ap (λ (x : Place). x.start) e)), ((λ e. count_not_page root_slot (ap (λ (x : Place). x.start) e)), tt)),
+        (((λ e. count_not_entry v (ap (λ (x : Place). x.start) e)), tt), (tt, tt)),
+      );
       wholes = split_wholes holds.forest v nodes e p n count lows first more can;
       once = split_once holds.forest v nodes e p n count lows first more can facts.count_is;
       pages = split_pages holds.forest v nodes e p n count lows first more can facts.count_is lp;
@@ -596,15 +645,24 @@ split_acts kept nodes name key value v e p pairs n count lows first more r es pa
     same_some : (a b : ℕ) → Some a ≡ Some b → a ≡ b
     same_some a b e = cc
 
+    root_slot : ℕ
+    root_slot = e.root.slot
+
+    count_not_page : (slot : ℕ) → 16 ≡ 20480 + 1024 * slot → ⊥
+    count_not_page slot same = absurd (omega arith)
+
+    count_not_entry : (w : ℕ) → 16 ≡ 64 + 64 * w → ⊥
+    count_not_entry w same = absurd (omega arith)
+
     three_same : {a b x y : Place} → a ≡ x → b ≡ y → ◌≡◌ {A = List Place} (a ∷ b ∷ front_place (count_place n) ∷ []) (x ∷ y ∷ front_place (count_place n) ∷ [])
     three_same p q = cc
 
 pub split_is_planned : SplitIsPlanned
 split_is_planned kept nodes name key value v e p pairs n count lows first more r es page_shown entry_shown = record {
-  shown = (shows_page es e.root p page_shown, (shows_entry es v e r.few entry_shown, (shows_count es n count, (tt, (tt, (tt, (tt, tt)))))));
+  shown = (shows_page es e.root p page_shown, (shows_entry es (lesser_node e.root.node n) v e r.few entry_shown, (shows_count es n count, (tt, (tt, (tt, (tt, tt)))))));
   acts = λ memory store many sizes holds on hold. split_acts kept nodes name key value v e p pairs n count lows first more r es page_shown entry_shown memory store many sizes holds on hold;
-  order = and_from _ _ (by_rank e.root.node node_0 (20480 + 1024 * e.root.slot) (64 + 64 * v) 0 1 (page_rank e.root.slot) (entry_rank v r.few) refl)
-      (and_from _ _ (by_rank node_0 n (64 + 64 * v) 16 1 2 (entry_rank v r.few) refl refl)
+  order = and_from _ _ (by_rank e.root.node (lesser_node e.root.node n) (20480 + 1024 * e.root.slot) (64 + 64 * v) 0 1 (page_rank e.root.slot) (entry_rank v r.few) refl)
+      (and_from _ _ (by_rank (lesser_node e.root.node n) n (64 + 64 * v) 16 1 2 (entry_rank v r.few) refl refl)
       (and_from true _ refl
       (and_from _ _ (may_pages e.root.node n e.root.slot count)
       (and_from _ _ (may_pages n n count (count + 1))

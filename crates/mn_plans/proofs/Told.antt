@@ -3,6 +3,7 @@ use Rattle.std.proofs.Common.{◌≡◌, ℕ, zero, suc, ◌+◌, ◌*◌, ◌<�
 use Rattle.std.specs.List.{AllByRecursion}
 use Rattle.std.proofs.lemmas.Option.{slice_get_cases}
 use Rattle.mn_base.specs.declared.ids.Addr.{Addr}
+use Rattle.mn_base.specs.declared.ids.NodeNo.{NodeNo}
 use Rattle.mn_mini.specs.Flat.{bytes_in, space_in}
 use Rattle.mn_page.specs.declared.page.Page.{Page}
 use Rattle.mn_page.specs.declared.entry.CatEntry.{CatEntry}
@@ -38,14 +39,14 @@ compares_tell es memory store holds items hold = record {
       page_there holds.forest sound addr p in' spelled
       (ap (λ (m : List (List ℕ)). bytes_in (space_in m addr.node) (20480 + 1024 * addr.slot) 1024) (sym is_spelled)
       ∙ met_page es memory addr p sizes (all_there (IsMet memory) items (compare_page addr p) mets there) (all_there (OnNumber (AgreesWith es memory)) items (compare_page addr p) hold.agrees there) shown);
-  entries = λ v e there shown few spelled.
-      entry_there holds.forest sound v e few spelled
-      (ap (λ (m : List (List ℕ)). bytes_in (space_in m node_0) (64 + 64 * v) 64) (sym is_spelled)
-      ∙ met_entry es memory v e few (all_there (OnNumber (AgreesWith es memory)) items (compare_entry v e) hold.agrees there) shown);
+  entries = λ n v e there shown in' few spelled.
+      entry_there holds.forest sound n v e in' few spelled
+      (ap (λ (m : List (List ℕ)). bytes_in (space_in m n) (64 + 64 * v) 64) (sym is_spelled)
+      ∙ met_entry es memory n v e few (all_there (OnNumber (AgreesWith es memory)) items (compare_entry n v e) hold.agrees there) shown);
   unused = λ v there shown few.
-      none_there holds.forest sound v few
+      none_there holds.forest sound node_0 v sound.nodes.0 few
       (ap (λ (m : List (List ℕ)). bytes_in (space_in m node_0) (64 + 64 * v) 64) (sym is_spelled)
-      ∙ compared_place es memory (entry_place catalog_node v) (replicate 8 0) (replicate 64 0) (inr (v, few, refl)) refl (all_there (OnNumber (AgreesWith es memory)) items (compare_unused v) hold.agrees there) shown);
+      ∙ compared_place es memory (entry_place catalog_node v) (replicate 8 0) (replicate 64 0) (inr (catalog_node, v, few, refl)) refl (all_there (OnNumber (AgreesWith es memory)) items (compare_unused v) hold.agrees there) shown);
   counts = λ n count there in' low.
       let size : count_in holds.forest n.0 ≤ 4096 = index_below holds.forest.pages n.0 sound.counts in
       big_bytes-inj 8 count (count_in holds.forest n.0) low (omega arith)
@@ -67,10 +68,10 @@ compares_tell es memory store holds items hold = record {
 -- Numbers
 
 -- an entry written over another one, or into an unused place
-entry_number : (memory : List (List ℕ)) (v k : ℕ) (old : List ℕ) (now : CatEntry) → bytes_in (space_in memory node_0) (64 + 64 * v) 64 ≡ old → take 8 old ≡ big_bytes 8 k → length (entry_bytes now) ≡ 64 → now.seq ≡ k + 1 → k + 1 < 2 ^ 64
-    → HasNextNumber memory (write_entry v now)
-entry_number memory v k old now read first long next low =
-    inr (k, low, ap (λ n. take 8 (bytes_in (space_in memory node_0) (64 + 64 * v) n)) long ∙ (ap (take 8) read ∙ first), ap (big_bytes 8) next)
+entry_number : (memory : List (List ℕ)) (n : NodeNo) (v k : ℕ) (old : List ℕ) (now : CatEntry) → bytes_in (space_in memory n) (64 + 64 * v) 64 ≡ old → take 8 old ≡ big_bytes 8 k → length (entry_bytes now) ≡ 64 → now.seq ≡ k + 1 → k + 1 < 2 ^ 64
+    → HasNextNumber memory (write_entry n v now)
+entry_number memory n v k old now read first long next low =
+    inr (k, low, ap (λ size. take 8 (bytes_in (space_in memory n) (64 + 64 * v) size)) long ∙ (ap (take 8) read ∙ first), ap (big_bytes 8) next)
 
 -- a slot with no page stands behind those of its node
 pub past_pages : (f : Forest) (addr : Addr) → page_at f addr ≡ None → length (slice_index_or f.pages addr.node.0 []) ≤ addr.slot
@@ -93,13 +94,13 @@ numbers_go_on memory store holds = record {
       new_number memory addr.node addr.slot now
       (ap (λ (m : List (List ℕ)). bytes_in (space_in m addr.node) (20480 + 1024 * addr.slot) 1024) is_spelled ∙ free_read holds.forest sound addr.node addr.slot in' (past_pages holds.forest addr free) room)
       (page_length now spelled) first;
-  entries = λ v was now there spelled next.
-      entry_number memory v was.seq (entry_bytes was) now
-      (ap (λ (m : List (List ℕ)). bytes_in (space_in m node_0) (64 + 64 * v) 64) is_spelled ∙ entry_read holds.forest sound v was there)
+  entries = λ n v was now in' there spelled next.
+      entry_number memory n v was.seq (entry_bytes was) now
+      (ap (λ (m : List (List ℕ)). bytes_in (space_in m n) (64 + 64 * v) 64) is_spelled ∙ entry_read holds.forest sound n v was in' there)
       refl (entry_length now spelled) next (subst (λ k. k < 2 ^ 64) next spelled.seq_high);
-  next = λ now few spelled first.
-      entry_number memory (length holds.forest.entries) 0 (replicate 64 0) now
-      (ap (λ (m : List (List ℕ)). bytes_in (space_in m node_0) (64 + 64 * length holds.forest.entries) 64) is_spelled ∙ unused_read holds.forest sound (length holds.forest.entries) few (omega arith))
+  next = λ n now in' few spelled first.
+      entry_number memory n (length holds.forest.entries) 0 (replicate 64 0) now
+      (ap (λ (m : List (List ℕ)). bytes_in (space_in m n) (64 + 64 * length holds.forest.entries) 64) is_spelled ∙ unused_read holds.forest sound n (length holds.forest.entries) in' few (omega arith))
       refl (entry_length now spelled) first (omega arith);
   counts = λ n count. inl (n, refl);
 }

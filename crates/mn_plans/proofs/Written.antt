@@ -11,6 +11,7 @@ use Rattle.mn_base.proofs.Lists.{all_append, weaker}
 use Rattle.mn_mini.specs.declared.item.Item.{Item}
 use Rattle.mn_mini.specs.Flat.{memory_after}
 use Rattle.mn_page.specs.declared.page.Page.{Page}
+use Rattle.mn_page.specs.declared.entry.CatEntry.{CatEntry}
 use Rattle.mn_page.specs.Grammar.{page_bytes, IsPage}
 use Rattle.mn_page.specs.Forest.{Forest, Laid, memory_laid, memory_of, laid_of, node_count, page_at}
 use Rattle.mn_page.specs.Holds.{PagesAt, IsTree, ShowsStore}
@@ -21,7 +22,7 @@ use Rattle.mn_page.proofs.Spelled.{page_length}
 use Rattle.mn_page.proofs.Counted.{counted}
 use Rattle.mn_plans.specs.Growth.{taken_on, AreCounts, addrs_of, giving_nodes, node_no, count_writes, over, write_held, WritesLeaveStore}
 use Rattle.mn_plans.specs.Plans.{write_count}
-use Rattle.mn_plans.proofs.Laying.{HasSlots, forest_laid, index-lengths, with_pages, with_counts, page_over, page_new, count_over}
+use Rattle.mn_plans.proofs.Laying.{HasSlots, on_each, on_as_many, forest_laid, index-lengths, with_pages, with_counts, page_over, page_new, count_over}
 use Rattle.mn_plans.proofs.Spaces.{AreSlots, page_node}
 use Rattle.mn_plans.proofs.Sizes.{sizes_of, index-set-all}
 use Rattle.mn_plans.proofs.NextSlots.{slots_free, slots_differ, number_cases}
@@ -214,9 +215,11 @@ grown_memory f is changed new counts stand long_changed long_new first are =
     ∙ (counts_written (with_pages (laid_of f) (grown_pages f.pages changed new)) (new_slots (with_pages (laid_of f) (over_in f.pages changed)) (changed_slots (laid_of f) is changed long_changed) new long_new)
     (length-map f.pages (λ ps. length ps) ∙ sym nodes) (λ n. slice_index_or counts n 0 + taken_on (addrs_of new) n) (giving_nodes counts (addrs_of new))
     (range_below (λ n. not (nat_eq (taken_on (addrs_of new) n) 0)) 0 (length counts) (length (grown_pages f.pages changed new)) (in_range (length counts) (length (grown_pages f.pages changed new)) (are.0 ∙ sym nodes)))
-    ∙ ap (λ (ks : List ℕ). memory_laid (record { entries = f.entries; counts = ks; pages = grown_pages f.pages changed new }))
+    ∙ (ap (λ (ks : List ℕ). memory_laid (record { catalogs = on_each f.pages f.entries; counts = ks; pages = grown_pages f.pages changed new }))
     (grown_counts f.pages (grown_pages f.pages changed new) counts (addrs_of new) are.0 nodes are.1
-    (λ n. added_in_sizes (over_in f.pages changed) new first n ∙ ap (λ k. k + taken_on (addrs_of new) n) (over_in_sizes f.pages changed n))))))
+    (λ n. added_in_sizes (over_in f.pages changed) new first n ∙ ap (λ k. k + taken_on (addrs_of new) n) (over_in_sizes f.pages changed n)))
+    ∙ ap (λ (cs : List (List CatEntry)). memory_laid (record { catalogs = cs; counts = sizes_of (grown_pages f.pages changed new); pages = grown_pages f.pages changed new }))
+    (on_as_many f.pages (grown_pages f.pages changed new) f.entries (sym nodes))))))
   where
     in_range : (a b : ℕ) → a ≡ b → 0 + a ≤ b
     in_range a b e = omega arith

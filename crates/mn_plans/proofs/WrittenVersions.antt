@@ -1,5 +1,5 @@
--- Writes of pages, of entries and of counts leave the memory of the forest with these pages and
--- entries.
+-- Writes of pages, of entries on each node and of counts leave the memory of the forest with these
+-- pages and entries.
 use Rattle.std.proofs.Common.{◌≡◌, ℕ, ◌+◌, ◌<◌, ◌≤◌, List, ◌++◌, length, map, refl, Option, Some, None, subst, sym, ap, ◌∙◌, arith, slice_index_or}
 use Rattle.std.specs.Prelude.{nat_eq, not}
 use Rattle.std.specs.List.{AllByRecursion}
@@ -16,34 +16,35 @@ use Rattle.mn_page.specs.Overlay.{Held, held_at}
 use Rattle.mn_page.proofs.Counted.{counted}
 use Rattle.mn_page.proofs.Grid.{get_in, all_split}
 use Rattle.mn_page.proofs.Spelled.{page_length}
-use Rattle.mn_plans.specs.Growth.{taken_on, AreCounts, addrs_of, giving_nodes, count_writes, over, write_held, Numbered, write_numbered, entries_after, AreNextEntries, WritesLeaveVersions}
-use Rattle.mn_plans.proofs.Laying.{HasSlots, forest_laid, with_pages}
+use Rattle.mn_plans.specs.Growth.{taken_on, AreCounts, addrs_of, giving_nodes, count_writes, over, write_held, Numbered, write_entries, entries_after, AreNextEntries, WritesLeaveVersions}
+use Rattle.mn_plans.proofs.Laying.{HasSlots, on_each, on_each_fits, on_as_many, forest_laid, with_pages}
 use Rattle.mn_law.proofs.Pieces.{entry_sizes}
 use Rattle.mn_plans.proofs.NextSlots.{slots_free, slots_differ}
 use Rattle.mn_plans.proofs.Grown.{all_mapped, held_known, Stands, over_in, over_in_nodes, over_in_sizes, over_in_lengths, AreFirst, are_first, added_in_nodes, added_in_sizes, added_in_lengths, grown_at}
 use Rattle.mn_plans.proofs.Written.{FillsSlot, changed_written, changed_slots, new_written, new_slots, counts_written, range_below, grown_counts, grown_pages}
-use Rattle.mn_plans.proofs.Entries.{HasEntries, entries_fit, with_entries, entries_written, after_has, after_all}
+use Rattle.mn_plans.proofs.Entries.{HasEntries, entries_fit, with_catalogs, entries_written, after_has, after_all}
 
 -- the grown forest with these entries
 abbrev pub forest_after : Forest → List Held → List Held → List Numbered → Forest
 forest_after f changed new entries = record { entries = entries_after f.entries entries; pages = grown_pages f.pages changed new }
 
-pub memory_grown : (f : Forest) → HasSlots (laid_of f) → HasEntries f.entries → 1 ≤ length f.pages → (changed new : List Held) (entries : List Numbered) (counts : List ℕ) → AllByRecursion (Stands f.pages) changed → AllByRecursion FillsSlot changed
+pub memory_grown : (f : Forest) → HasSlots (laid_of f) → HasEntries f.entries → (changed new : List Held) (entries : List Numbered) (counts : List ℕ) → AllByRecursion (Stands f.pages) changed → AllByRecursion FillsSlot changed
     → AllByRecursion FillsSlot new → AreFirst (over_in f.pages changed) new → AreNextEntries f.entries entries → AreCounts f counts (addrs_of new)
-    → memory_after (memory_of f) (map write_held changed ++ map write_held new ++ map write_numbered entries ++ count_writes counts (addrs_of new)) ≡ memory_of (forest_after f changed new entries)
-memory_grown f is has some changed new entries counts stand long_changed long_new first next are =
+    → memory_after (memory_of f) (map write_held changed ++ map write_held new ++ write_entries (node_count f) entries ++ count_writes counts (addrs_of new)) ≡ memory_of (forest_after f changed new entries)
+memory_grown f is has changed new entries counts stand long_changed long_new first next are =
     ap (memory_after (memory_of f))
-    (append_assoc (map write_held changed ++ map write_held new) (map write_numbered entries) (count_writes counts (addrs_of new))
-    ∙ append_assoc (map write_held changed) (map write_held new) (map write_numbered entries ++ count_writes counts (addrs_of new)))
-    ∙ (changed_written (laid_of f) is changed stand long_changed (map write_held new ++ (map write_numbered entries ++ count_writes counts (addrs_of new)))
-    ∙ (new_written (with_pages (laid_of f) (over_in f.pages changed)) (changed_slots (laid_of f) is changed long_changed) new first long_new (map write_numbered entries ++ count_writes counts (addrs_of new))
-    ∙ (entries_written (with_pages (laid_of f) (grown_pages f.pages changed new)) has (subst (λ k. 1 ≤ k) (sym nodes) some) entries next (count_writes counts (addrs_of new))
-    ∙ (counts_written (with_entries (with_pages (laid_of f) (grown_pages f.pages changed new)) (entries_after f.entries entries)) slots
+    (append_assoc (map write_held changed ++ map write_held new) (write_entries (node_count f) entries) (count_writes counts (addrs_of new))
+    ∙ append_assoc (map write_held changed) (map write_held new) (write_entries (node_count f) entries ++ count_writes counts (addrs_of new)))
+    ∙ (changed_written (laid_of f) is changed stand long_changed (map write_held new ++ (write_entries (node_count f) entries ++ count_writes counts (addrs_of new)))
+    ∙ (new_written (with_pages (laid_of f) (over_in f.pages changed)) (changed_slots (laid_of f) is changed long_changed) new first long_new (write_entries (node_count f) entries ++ count_writes counts (addrs_of new))
+    ∙ (ap (λ k. memory_after (memory_laid (with_pages (laid_of f) (grown_pages f.pages changed new))) (write_entries k entries ++ count_writes counts (addrs_of new))) (sym nodes)
+    ∙ (entries_written (with_pages (laid_of f) (grown_pages f.pages changed new)) f.entries has (on_as_many f.pages (grown_pages f.pages changed new) f.entries (sym nodes)) entries next (count_writes counts (addrs_of new))
+    ∙ (counts_written (with_catalogs (with_pages (laid_of f) (grown_pages f.pages changed new)) (on_each (grown_pages f.pages changed new) (entries_after f.entries entries))) slots
     (length-map f.pages (λ ps. length ps) ∙ sym nodes) (λ n. slice_index_or counts n 0 + taken_on (addrs_of new) n) (giving_nodes counts (addrs_of new))
     (range_below (λ n. not (nat_eq (taken_on (addrs_of new) n) 0)) 0 (length counts) (length (grown_pages f.pages changed new)) (in_range (length counts) (length (grown_pages f.pages changed new)) (are.0 ∙ sym nodes)))
-    ∙ ap (λ (ks : List ℕ). memory_laid (record { entries = entries_after f.entries entries; counts = ks; pages = grown_pages f.pages changed new }))
+    ∙ ap (λ (ks : List ℕ). memory_laid (record { catalogs = on_each (grown_pages f.pages changed new) (entries_after f.entries entries); counts = ks; pages = grown_pages f.pages changed new }))
     (grown_counts f.pages (grown_pages f.pages changed new) counts (addrs_of new) are.0 nodes are.1
-    (λ n. added_in_sizes (over_in f.pages changed) new first n ∙ ap (λ k. k + taken_on (addrs_of new) n) (over_in_sizes f.pages changed n)))))))
+    (λ n. added_in_sizes (over_in f.pages changed) new first n ∙ ap (λ k. k + taken_on (addrs_of new) n) (over_in_sizes f.pages changed n))))))))
   where
     in_range : (a b : ℕ) → a ≡ b → 0 + a ≤ b
     in_range a b e = omega arith
@@ -54,14 +55,14 @@ memory_grown f is has some changed new entries counts stand long_changed long_ne
     grown : HasSlots (with_pages (laid_of f) (grown_pages f.pages changed new))
     grown = new_slots (with_pages (laid_of f) (over_in f.pages changed)) (changed_slots (laid_of f) is changed long_changed) new long_new
 
-    slots : HasSlots (with_entries (with_pages (laid_of f) (grown_pages f.pages changed new)) (entries_after f.entries entries))
-    slots = record { fits = entries_fit (entries_after f.entries entries) (after_has f.entries entries has next); slots = grown.slots }
+    slots : HasSlots (with_catalogs (with_pages (laid_of f) (grown_pages f.pages changed new)) (on_each (grown_pages f.pages changed new) (entries_after f.entries entries)))
+    slots = record { fits = on_each_fits (grown_pages f.pages changed new) (entries_after f.entries entries) (entries_fit (entries_after f.entries entries) (after_has f.entries entries has next)); slots = grown.slots }
 
 pub writes_leave_versions : WritesLeaveVersions
 writes_leave_versions memory store after holds changed new entries counts stand apart spelled are next are_next tree shown = record {
   forest = forest_after holds.forest changed new entries;
-  spelled = ap (λ (m : List (List ℕ)). memory_after m (map write_held changed ++ map write_held new ++ map write_numbered entries ++ count_writes counts (addrs_of new))) holds.spelled
-      ∙ memory_grown holds.forest (forest_laid holds.forest (counted holds.forest holds.sound)) has holds.sound.laid.nodes.0 changed new entries counts stand (filled changed parts.0) (filled new parts.1) first are_next are;
+  spelled = ap (λ (m : List (List ℕ)). memory_after m (map write_held changed ++ map write_held new ++ write_entries (node_count holds.forest) entries ++ count_writes counts (addrs_of new))) holds.spelled
+      ∙ memory_grown holds.forest (forest_laid holds.forest (counted holds.forest holds.sound)) has changed new entries counts stand (filled changed parts.0) (filled new parts.1) first are_next are;
   sound = record {
     laid = record {
       nodes = subst (λ k. (1 ≤ k) × (k ≤ 8)) (sym nodes) holds.sound.laid.nodes;

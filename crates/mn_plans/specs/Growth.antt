@@ -3,7 +3,7 @@
 use Rattle.std.specs.Prelude.{ℕ, zero, suc, ◌≡◌, ◌+◌, ◌^◌, ◌<◌, ◌≤◌, not, nat_eq, List, [], ◌∷◌}
 use Rattle.std.specs.Prelude.{◌++◌, length, map, filter, replicate, Some, None, ⊤, if◌then◌else◌}
 use Rattle.std.specs.Prelude.{Contains, slice_get, slice_set, slice_index_or}
-use Rattle.std.specs.List.{AllByRecursion, range_with_len}
+use Rattle.std.specs.List.{AllByRecursion, flat_map, range_with_len}
 use Rattle.std.specs.Option.{option_or}
 use Rattle.mn_base.specs.Store.{Store, max_versions}
 use Rattle.mn_base.specs.declared.ids.Addr.{Addr}
@@ -113,11 +113,13 @@ WritesLeaveStore =
 abbrev pub Numbered : Type 0
 Numbered = ℕ × CatEntry
 
-abbrev pub write_entry : ℕ → CatEntry → Item
-write_entry v e = Write (node_no 0) (entry_start v) (entry_bytes e)
+abbrev pub write_entry : NodeNo → ℕ → CatEntry → Item
+write_entry n v e = Write n (entry_start v) (entry_bytes e)
 
-abbrev pub write_numbered : Numbered → Item
-write_numbered w = write_entry w.0 w.1
+-- the entries on each of so many nodes, by node and then in their order
+abbrev pub write_entries : ℕ → List Numbered → List Item
+write_entries nodes entries =
+    flat_map (λ n. map (λ w. write_entry (node_no n) w.0 w.1) entries) (range_with_len 0 nodes)
 
 -- the entries with this one in its place, or behind them
 abbrev pub entries_with : List CatEntry → ℕ → CatEntry → List CatEntry
@@ -137,8 +139,8 @@ AreNextEntries entries (w ∷ ws) =
     (w.0 ≤ length entries) × (w.0 < max_versions) × IsEntry w.1
     × AreNextEntries (entries_with entries w.0 w.1) ws
 
--- the same where entries are written between the pages and the counts: if the pages and the entries
--- are a tree then that shows a store, the memory holds it
+-- the same where entries are written on each node between the pages and the counts: if the pages
+-- and the entries are a tree then that shows a store, the memory holds it
 abbrev pub WritesLeaveVersions : Type 0
 WritesLeaveVersions =
     (memory : List (List ℕ)) (store after : Store) (holds : Holds memory store)
@@ -153,14 +155,15 @@ WritesLeaveVersions =
     (over (changed ++ new) (page_at holds.forest)) after
     → Holds
     (memory_after memory
-    (map write_held changed ++ map write_held new ++ map write_numbered entries
+    (map write_held changed ++ map write_held new
+    ++ write_entries (node_count holds.forest) entries
     ++ count_writes counts (addrs_of new))) after
 
 -- Compares
 
 -- the place of a version that isn't there, and that the list has shown so
 abbrev pub compare_unused : ℕ → Item
-compare_unused v = Compare (node_no 0) (entry_start v) (replicate number_size 0)
+compare_unused v = Compare catalog_node (entry_start v) (replicate number_size 0)
 
 abbrev pub ShowsUnused : List Entry → ℕ → Type 0
 ShowsUnused es v =
@@ -171,8 +174,9 @@ ShowsUnused es v =
 pub record AreMet (es : List Entry) (f : Forest) (items : List Item) : Type 0 where
   pub pages : (addr : Addr) (p : Page) → Contains items (compare_page addr p) → ShowsPage es addr p
       → addr.node.0 < node_count f → IsPage p → page_at f addr ≡ Some p
-  pub entries : (v : ℕ) (e : CatEntry) → Contains items (compare_entry v e) → ShowsEntry es v e
-      → v < max_versions → IsEntry e → slice_get f.entries v ≡ Some e
+  pub entries : (n : NodeNo) (v : ℕ) (e : CatEntry) → Contains items (compare_entry n v e)
+      → ShowsEntry es n v e → n.0 < node_count f → v < max_versions → IsEntry e
+      → slice_get f.entries v ≡ Some e
   pub unused : (v : ℕ) → Contains items (compare_unused v) → ShowsUnused es v → v < max_versions
       → length f.entries ≤ v
   pub counts : (n : NodeNo) (count : ℕ) → Contains items (compare_count n count)
@@ -192,10 +196,12 @@ pub record GoOn (f : Forest) (memory : List (List ℕ)) : Type 0 where
   pub new : (addr : Addr) (now : Page) → page_at f addr ≡ None → addr.node.0 < node_count f
       → addr.slot < max_slots → IsPage now → now.seq ≡ 1
       → HasNextNumber memory (write_page addr now)
-  pub entries : (v : ℕ) (was now : CatEntry) → slice_get f.entries v ≡ Some was → IsEntry now
-      → now.seq ≡ was.seq + 1 → HasNextNumber memory (write_entry v now)
-  pub next : (now : CatEntry) → length f.entries < max_versions → IsEntry now → now.seq ≡ 1
-      → HasNextNumber memory (write_entry (length f.entries) now)
+  pub entries : (n : NodeNo) (v : ℕ) (was now : CatEntry) → n.0 < node_count f
+      → slice_get f.entries v ≡ Some was → IsEntry now → now.seq ≡ was.seq + 1
+      → HasNextNumber memory (write_entry n v now)
+  pub next : (n : NodeNo) (now : CatEntry) → n.0 < node_count f
+      → length f.entries < max_versions → IsEntry now → now.seq ≡ 1
+      → HasNextNumber memory (write_entry n (length f.entries) now)
   pub counts : (n : NodeNo) (count : ℕ) → HasNextNumber memory (write_count n count)
 
 abbrev pub NumbersGoOn : Type 0

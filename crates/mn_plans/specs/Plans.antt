@@ -19,9 +19,9 @@ use Rattle.mn_page.specs.Space.{count_start, count_size, entry_start, slot_start
 use Rattle.mn_page.specs.Grammar.{page_bytes, entry_bytes, IsPage, IsEntry, IsKey, IsValue}
 use Rattle.mn_page.specs.Holds.{page_covers}
 use Rattle.mn_runs.specs.declared.entry.Entry.{Entry}
-use Rattle.mn_law.specs.Places.{catalog_node, page_place, entry_place, number_size}
+use Rattle.mn_law.specs.Places.{page_place, entry_place, number_size}
 use Rattle.mn_law.specs.Shown.{ShowsLast}
-use Rattle.mn_law.specs.Planned.{IsPlanned}
+use Rattle.mn_law.specs.Planned.{IsPlanned, lesser}
 
 -- Items
 
@@ -29,16 +29,15 @@ use Rattle.mn_law.specs.Planned.{IsPlanned}
 abbrev pub compare_page : Addr → Page → Item
 compare_page addr p = Compare addr.node (slot_start addr.slot) (big_bytes number_size p.seq)
 
-abbrev pub compare_entry : ℕ → CatEntry → Item
-compare_entry v e = Compare catalog_node (entry_start v) (big_bytes number_size e.seq)
+abbrev pub compare_entry : NodeNo → ℕ → CatEntry → Item
+compare_entry n v e = Compare n (entry_start v) (big_bytes number_size e.seq)
 
 -- which the list has shown last with this number
 abbrev pub ShowsPage : List Entry → Addr → Page → Type 0
 ShowsPage es addr p = ShowsLast es (page_place addr) (big_bytes number_size p.seq) (page_bytes p)
 
-abbrev pub ShowsEntry : List Entry → ℕ → CatEntry → Type 0
-ShowsEntry es v e =
-    ShowsLast es (entry_place catalog_node v) (big_bytes number_size e.seq) (entry_bytes e)
+abbrev pub ShowsEntry : List Entry → NodeNo → ℕ → CatEntry → Type 0
+ShowsEntry es n v e = ShowsLast es (entry_place n v) (big_bytes number_size e.seq) (entry_bytes e)
 
 abbrev pub write_page : Addr → Page → Item
 write_page addr p = Write addr.node (slot_start addr.slot) (page_bytes p)
@@ -78,7 +77,7 @@ abbrev pub put_in_place : ℕ → List ℕ → List ℕ → ℕ → CatEntry →
 put_in_place nodes key value v e addr p pairs =
     record {
       nodes = nodes;
-      items = compare_page addr p ∷ compare_entry v e
+      items = compare_page addr p ∷ compare_entry addr.node v e
           ∷ write_page addr (next_leaf p (pairs_with pairs key value)) ∷ [];
     }
 
@@ -86,7 +85,7 @@ abbrev pub PutIsPlanned : Type 0
 PutIsPlanned =
     (kept : List Head) (nodes : ℕ) (name key value : List ℕ) (v : ℕ) (e : CatEntry) (addr : Addr)
     (p : Page) (pairs : List Pair) → IsLeafWithRoom kept nodes name key value v e addr p pairs
-    → (es : List Entry) → ShowsPage es addr p → ShowsEntry es v e
+    → (es : List Entry) → ShowsPage es addr p → ShowsEntry es addr.node v e
     → IsPlanned es kept (Tx name (Put key value ∷ []))
     (put_in_place nodes key value v e addr p pairs) (Values [])
 
@@ -141,9 +140,12 @@ pub record HasSplit (kept : List Head) (nodes : ℕ) (name key value : List ℕ)
   pub free_node : n.0 < nodes
   pub room : count + 2 ≤ max_slots
 
+abbrev pub lesser_node : NodeNo → NodeNo → NodeNo
+lesser_node n m = record { 0 = lesser n.0 (Some m.0) }
+
 abbrev pub split_items : ℕ → CatEntry → Page → NodeNo → ℕ → List Pair → Pair → List Pair → List Item
 split_items v e p n count lows first more =
-    compare_page e.root p ∷ compare_entry v e ∷ compare_count n count
+    compare_page e.root p ∷ compare_entry (lesser_node e.root.node n) v e ∷ compare_count n count
     ∷ write_page e.root (parent_of_halves p first.key (slot_at n count) (slot_at n (count + 1)))
     ∷ write_page (slot_at n count) (left_half p lows first.key)
     ∷ write_page (slot_at n (count + 1)) (right_half p (first ∷ more) first.key)
@@ -155,6 +157,6 @@ SplitIsPlanned =
     (pairs : List Pair) (n : NodeNo) (count : ℕ) (lows : List Pair) (first : Pair)
     (more : List Pair)
     → HasSplit kept nodes name key value v e p pairs n count lows first more
-    → (es : List Entry) → ShowsPage es e.root p → ShowsEntry es v e
+    → (es : List Entry) → ShowsPage es e.root p → ShowsEntry es (lesser_node e.root.node n) v e
     → IsPlanned es kept (Tx name (Put key value ∷ []))
     (record { nodes = nodes; items = split_items v e p n count lows first more }) (Values [])

@@ -29,7 +29,7 @@ use Rattle.mn_page.specs.Forest.{entry_head, heads_in}
 use Rattle.mn_page.specs.Grammar.{SpellsPage, entry_bytes, padded, page_bytes}
 use Rattle.mn_page.specs.Space.{count_size, count_start, entry_size, entry_start, slot_start}
 use Rattle.mn_path.specs.Walk.{front_of, is_on_path}
-use Rattle.mn_law.specs.Answers.{IsPageAtFault, MeetsFault, ReachesAddr, ShowsBytes, is_copying}
+use Rattle.mn_law.specs.Answers.{IsPageAtFault, MeetsFault, ReachesAddr, ShowsBytes, ShowsExpected, is_copying}
 use Rattle.mn_runs.specs.Clients.{is_plan}
 use Rattle.mn_plans.specs.Growth.{node_no}
 use Rattle.mn_law.specs.Needs.{NeedsSlots, ReadsTree, WritesOld}
@@ -282,10 +282,10 @@ module _ (nodes : ℕ) (seens : List Seen) (op : Op) (entries : List CatEntry) w
 
   -- what shows images shows how they begin
   begins_shown : (reads : List Image) → AllByRecursion (λ i. ShowsBytes seens i.node i.start i.bytes) reads
-      → AllByRecursion (λ i. ShowsBytes seens i.node i.start (take number_size i.bytes)) reads
+      → AllByRecursion (λ i. ShowsExpected seens i.node i.start (take number_size i.bytes)) reads
   begins_shown [] all = tt
   begins_shown (i ∷ reads) all =
-      (begin_shown seens i.node i.start number_size i.bytes all.0, begins_shown reads all.1)
+      (inl (begin_shown seens i.node i.start number_size i.bytes all.0), begins_shown reads all.1)
 
   -- its plan compares what was read
   plan_read : (o : Op) (c : Child) (seen : Seen) (mini : Mini) (root : Page) (slot : Addr)
@@ -294,14 +294,14 @@ module _ (nodes : ℕ) (seens : List Seen) (op : Op) (entries : List CatEntry) w
       → ShowsBytes seens slot.node count_start (big_bytes count_size slot.slot)
       → IsPlanFor nodes entries o root slot mini → AreComparesShown seens mini
   plan_read (Snapshot name child) c seen mini root slot has sees makes admits brought count plan n start bytes there =
-      of_items (λ n start bytes. ShowsBytes seens n start bytes) (child_reads its) (snapshot_writes its)
+      of_items (λ n start bytes. ShowsExpected seens n start bytes) (child_reads its) (snapshot_writes nodes its)
       (begins_shown (child_reads its) (compares_shown nodes seens (Snapshot name child) entries c seen has sees makes admits root slot child plan.version plan.entry plan.is brought count))
       n start bytes (subst (λ (x : Mini). Contains x.items (Compare n start bytes)) plan.items there)
     where
       its : ChildTry
       its = child_try entries nodes name child plan.version plan.entry root slot
   plan_read (Branch name child) c seen mini root slot has sees makes admits brought count plan n start bytes there =
-      of_items (λ n start bytes. ShowsBytes seens n start bytes) (child_reads its) (branch_writes its)
+      of_items (λ n start bytes. ShowsExpected seens n start bytes) (child_reads its) (branch_writes nodes its)
       (begins_shown (child_reads its) (compares_shown nodes seens (Branch name child) entries c seen has sees makes admits root slot child plan.version plan.entry plan.is brought count))
       n start bytes (subst (λ (x : Mini). Contains x.items (Compare n start bytes)) plan.items there)
     where
@@ -319,10 +319,10 @@ module _ (nodes : ℕ) (seens : List Seen) (op : Op) (entries : List CatEntry) w
       → (mini.nodes ≡ nodes) × IsTrue (is_plan mini.items)
   plan_made (Snapshot name child) root slot mini plan =
       let its = child_try entries nodes name child plan.version plan.entry root slot in
-      (ap (λ (x : Mini). x.nodes) plan.items, ap (λ (x : Mini). is_plan x.items) plan.items ∙ items_plan (child_reads its) (snapshot_writes its))
+      (ap (λ (x : Mini). x.nodes) plan.items, ap (λ (x : Mini). is_plan x.items) plan.items ∙ items_plan (child_reads its) (snapshot_writes nodes its))
   plan_made (Branch name child) root slot mini plan =
       let its = child_try entries nodes name child plan.version plan.entry root slot in
-      (ap (λ (x : Mini). x.nodes) plan.items, ap (λ (x : Mini). is_plan x.items) plan.items ∙ items_plan (child_reads its) (branch_writes its))
+      (ap (λ (x : Mini). x.nodes) plan.items, ap (λ (x : Mini). is_plan x.items) plan.items ∙ items_plan (child_reads its) (branch_writes nodes its))
   plan_made (Tx name steps) root slot mini plan = absurd plan
   plan_made (Scan name low high limit) root slot mini plan = absurd plan
   plan_made Versions root slot mini plan = absurd plan

@@ -31,7 +31,7 @@ use Rattle.mn_mini.proofs.Parts.{same_self, same_true}
 use Rattle.mn_mini.specs.Mini.{is_read}
 use Rattle.mn_page.specs.declared.entry.CatEntry.{CatEntry}
 use Rattle.mn_runs.specs.declared.entry.Entry.{Entry}
-use Rattle.mn_law.specs.Answers.{DiffersAs, LastIssue, RefusedAs, ShowsBytes, asks_catalog}
+use Rattle.mn_law.specs.Answers.{DiffersAs, LastIssue, RefusedAs, ShowsExpected, asks_catalog}
 use Rattle.mn_law.specs.Answers.{asks_for_catalog, is_any_decide, is_down_cause, is_peek, is_refusal}
 use Rattle.mn_law.specs.Answers.{nodes_of, part_compares}
 use Rattle.mn_runs.specs.Calls.{Call, Issued, call_in, calls_of, is_done, issue_in, issues_of, since_begin}
@@ -335,7 +335,7 @@ compare_there n (Compare node start bytes ∷ items) i at is =
 
 module _ (seens : List Seen) (tid : Tid) (mini : Mini) (n : NodeNo) (busy : Busy)
     (shown : (item : ℕ) (at : ℕ × List ℕ) → slice_get (compares_at n mini.items) item ≡ Some at
-    → ShowsBytes seens n at.0 at.1) where
+    → ShowsExpected seens n at.0 at.1) where
   differs_by : (item : ℕ) (found : List ℕ) (o : Option (ℕ × List ℕ))
       → slice_get (compares_at n mini.items) item ≡ o
       → option_map (λ c. Moved n c.0 c.1 found) o ≡ Some busy
@@ -508,7 +508,7 @@ pub record IsAskedBy (es : List Entry) (known : Known) (w : Work) (c : Coordinat
   pub going : IsOpen es known w
   pub shown : IfLater w.failed ((item : ℕ) (at : ℕ × List ℕ)
       → slice_get (compares_at (participant c c.done) c.mini.items) item ≡ Some at
-      → ShowsBytes (seen_in going.try) (participant c c.done) at.0 at.1)
+      → ShowsExpected (seen_in going.try) (participant c c.done) at.0 at.1)
   pub begins : (w.job ≡ at.Start) ⊎ (known.catalog ≡ None)
       → asks_there (participant c c.done) (try_request c.tid c.mini (participant c c.done)) ≡ true
 

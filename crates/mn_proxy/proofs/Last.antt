@@ -9,6 +9,7 @@ use Rattle.mn_base.specs.declared.error.NoMemory.{NoMemory}
 use Rattle.mn_base.specs.declared.ids.Addr.{Addr}
 use Rattle.mn_base.specs.declared.op.Op.{Op}
 use Rattle.mn_base.specs.declared.op.Op.TheVariants.{Tx, Scan}
+use Rattle.mn_base.specs.declared.ids.NodeNo.{NodeNo}
 use Rattle.mn_page.specs.declared.entry.CatEntry.{CatEntry}
 use Rattle.mn_page.specs.declared.page.Page.{Page}
 use Rattle.mn_page.specs.Grammar.{page_bytes}
@@ -18,7 +19,7 @@ use Rattle.mn_base.proofs.Lists.{all_append}
 use Rattle.mn_runs.specs.declared.entry.Entry.{Entry}
 use Rattle.mn_runs.specs.Calls.{Call, call_in, calls_of}
 use Rattle.mn_runs.specs.Seen.{Place, Seen}
-use Rattle.mn_law.specs.Places.{catalog_node, catalog_place, entry_place, number_size, page_place}
+use Rattle.mn_law.specs.Places.{catalog_place, entry_place, number_size, page_place}
 use Rattle.mn_law.specs.Shown.{FirstGives, shown_by, shown_in}
 use Rattle.mn_work.specs.declared.known.Known.{Known}
 use Rattle.mn_work.specs.declared.next.Next.{Next}
@@ -71,7 +72,7 @@ abbrev KeptBy : List Seen → Known → Type 0
 KeptBy seens known =
     AllByRecursion (λ h. IsLastOf seens (page_place h.0) (page_bytes h.1)) known.cache
     × MatchOption known.catalog ⊤
-    (λ entries. (v : ℕ) → v < max_versions → IsLastOf seens (entry_place catalog_node v) (bytes_at entries v))
+    (λ entries. (n : NodeNo) (v : ℕ) → v < max_versions → IsLastOf seens (entry_place n v) (bytes_at entries v))
 
 abbrev PagesBy : List Seen → List SeenPage → Type 0
 PagesBy seens pages = AllByRecursion (λ p. IsLastOf seens (page_place p.addr) p.bytes) pages

@@ -1,8 +1,9 @@
 -- What a try of a transaction of several steps shows in its client's own list.
-use Rattle.std.proofs.Common.{◌≡◌, inl, inr, ℕ, zero, suc, ◌-◌, ◌<◌, ◌≤◌, ◌^◌, Bool, true, false, List, [], ◌∷◌, ◌++◌, map, length, Option, Some, None, Vec, Global, refl, subst, sym, arith, slice_get, Contains}
+use Rattle.std.proofs.Common.{◌≡◌, inl, inr, ℕ, zero, suc, ◌-◌, ◌<◌, ◌≤◌, ◌^◌, Bool, true, false, List, [], ◌∷◌, ◌++◌, map, length, Option, Some, None, Vec, Global, refl, subst, sym, ap, arith, slice_get, Contains}
 use Rattle.std.specs.Prelude.{MatchOption}
 use Rattle.std.specs.List.{AllByRecursion}
 use Rattle.byteorder.specs.Endian.{big_bytes}
+use Rattle.std.proofs.lemmas.Option.{slice_get_within}
 use Rattle.mn_base.specs.Store.{step_key}
 use Rattle.mn_base.specs.Tree.{parents_of}
 use Rattle.mn_base.specs.declared.ids.Addr.{Addr}
@@ -26,7 +27,7 @@ use Rattle.mn_page.specs.Space.{count_size, count_start, entry_start}
 use Rattle.mn_tree.specs.Moves.{Comes, Does, LeadsTo, Move, comes_in}
 use Rattle.mn_tree.specs.State.{Drafted, drafted_after, drafted_with, no_pages}
 use Rattle.mn_tree.specs.Tries.{ComeTo}
-use Rattle.mn_law.specs.Answers.{FreeSlots, MeetsFault, ShowsBytes}
+use Rattle.mn_law.specs.Answers.{FreeSlots, MeetsFault, ShowsBytes, ShowsExpected}
 use Rattle.mn_law.specs.Needs.{NeedsSlots, ReadsTree, WritesOld}
 use Rattle.mn_runs.specs.Seen.{Place, Seen}
 use Rattle.mn_law.specs.Places.{catalog_node, number_size}
@@ -161,22 +162,29 @@ module _ (nodes : ℕ) (seens : List Seen) (name : List ℕ) (steps : List Step)
       → Contains seens seen → SeesCatalog seen entries → AreBrought seens a.pages.items
       → ((m : NodeNo) (count : ℕ) → slice_get a.counts.items m.0 ≡ Some count
       → ShowsBytes seens m count_start (big_bytes count_size count))
-      → IsReadAt entries a n start bytes → ShowsBytes seens n start bytes
+      → IsReadAt entries a n start bytes → ShowsExpected seens n start bytes
   read_shown a seen n start bytes has sees brought counts (inl read) =
-      subst (λ (b : List ℕ). ShowsBytes seens n start b) read.bytes_are
+      inl (subst (λ (b : List ℕ). ShowsBytes seens n start b) read.bytes_are
       (begin_shown seens n start number_size read.page.bytes
       (whole_shown seens (seen_page read.page.addr read.page.bytes) n start read.page.bytes
       (all_there (λ (p : SeenPage). Contains seens (seen_page p.addr p.bytes)) a.pages.items read.page brought read.among)
-      read.node_is read.start_is refl))
+      read.node_is read.start_is refl)))
   read_shown a seen n start bytes has sees brought counts (inr (inl read)) =
-      subst (λ (m : NodeNo). ShowsBytes seens m start bytes) read.node_is
-      (subst (λ (s : ℕ). ShowsBytes seens catalog_node s bytes) read.start_is
-      (subst (λ (b : List ℕ). ShowsBytes seens catalog_node (entry_start a.version.0) b) read.bytes_are
-      (begin_shown seens catalog_node (entry_start a.version.0) number_size (entry_bytes read.entry)
-      (entry_shown seens seen entries a.version.0 read.entry has sees read.there))))
+      let low = slice_get_within entries a.version.0 read.entry read.there in
+      let few = sees.1 in
+      inr (
+        a.version.0,
+        omega (arith, low, few),
+        sym read.start_is,
+        sym (ap (λ (b : List ℕ). length b) read.bytes_are),
+        subst (λ (s : ℕ). ShowsBytes seens catalog_node s bytes) read.start_is
+            (subst (λ (b : List ℕ). ShowsBytes seens catalog_node (entry_start a.version.0) b) read.bytes_are
+            (begin_shown seens catalog_node (entry_start a.version.0) number_size (entry_bytes read.entry)
+            (entry_shown seens seen entries a.version.0 read.entry has sees read.there))),
+      )
   read_shown a seen n start bytes has sees brought counts (inr (inr read)) =
-      subst (λ (s : ℕ). ShowsBytes seens n s bytes) read.start_is
-      (subst (λ (b : List ℕ). ShowsBytes seens n count_start b) read.bytes_are (counts n read.count read.there))
+      inl (subst (λ (s : ℕ). ShowsBytes seens n s bytes) read.start_is
+      (subst (λ (b : List ℕ). ShowsBytes seens n count_start b) read.bytes_are (counts n read.count read.there)))
 
   -- the cause of a walk that can't go on
   cause_shown : (a : Attempt) (seen : Seen) (cause : Busy) → Contains seens seen

@@ -26,7 +26,7 @@ use Rattle.mn_runs.specs.declared.entry.Entry.{Entry}
 use Rattle.mn_runs.specs.declared.entry.What.{What}
 use Rattle.mn_runs.specs.declared.entry.What.TheVariants.{Abandoned, Answered, Begin, Issue}
 use Rattle.mn_scan.specs.Scan.{may_be_leaf}
-use Rattle.mn_law.specs.Answers.{IsPlanBy, LastIssue, MeansBy, ShowsBytes, is_down_cause}
+use Rattle.mn_law.specs.Answers.{IsPlanBy, LastIssue, MeansBy, ShowsExpected, is_down_cause}
 use Rattle.mn_law.specs.Answers.{is_refusal, nodes_of}
 use Rattle.mn_runs.specs.Calls.{begun_of, call_in, calls_of, is_done, issues_of, since_begin}
 use Rattle.mn_runs.specs.Calls.{under_way}
@@ -169,11 +169,11 @@ pub record HasRead (es : List Entry) (known : Known) (w : Work) (purpose : Purpo
 
 -- What is on its way
 
--- each compare of a plan was read by a later try
+-- each compare of a plan was read by a later try, that of an entry where the catalog is read
 abbrev pub AreComparesShown : List Seen → Mini → Type 0
 AreComparesShown seens mini =
     (n : NodeNo) (start : ℕ) (bytes : List ℕ) → Contains mini.items (Compare n start bytes)
-    → ShowsBytes seens n start bytes
+    → ShowsExpected seens n start bytes
 
 -- a minitransaction for this purpose: a read of its place, or a plan of the operation, which a job
 -- that has begun made

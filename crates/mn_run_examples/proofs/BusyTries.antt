@@ -22,11 +22,11 @@ locked_fails s before = inl (_, refl, refl)
 
 moved_fails : (found : List ℕ) (s : ℕ) (before : List Entry)
     → FailsAs 2 put ((moved found).made s ++ before) (Moved (node 1) 21504 (big_bytes 8 3) found)
-moved_fails found s before = inl (_, refl, (21504, big_bytes 8 3, refl, (leaf_seen, (0, omega arith, refl), refl, lit≤ tt, leaf_shown), refl))
+moved_fails found s before = inl (_, refl, (21504, big_bytes 8 3, refl, inl (leaf_seen, (0, omega arith, refl), refl, lit≤ tt, leaf_shown), refl))
 
 entry_moved_fails : (found : List ℕ) (s : ℕ) (before : List Entry)
     → FailsAs 2 put ((entry_moved found).made s ++ before) (Moved (node 0) 128 (big_bytes 8 m2.seq) found)
-entry_moved_fails found s before = inl (_, refl, (128, big_bytes 8 m2.seq, refl, (catalog_seen, (1, omega arith, refl), refl, lit≤ tt, number_shown), refl))
+entry_moved_fails found s before = inl (_, refl, (128, big_bytes 8 m2.seq, refl, inl (catalog_seen, (1, omega arith, refl), refl, lit≤ tt, number_shown), refl))
 
 forced_fails : (s : ℕ) (before : List Entry)
     → FailsAs 2 put (forced.made s ++ before) (Forced (id 0 (s + 2)))

@@ -7,11 +7,13 @@ use Rattle.mn_mini.specs.declared.reply.NodeReply.TheVariants as Say
 use Rattle.mn_runs.specs.declared.entry.Entry.{Entry}
 use Rattle.mn_runs.specs.declared.entry.What.TheVariants as Did
 use Rattle.mn_runs.specs.Calls.{since_begin}
+use Rattle.mn_law.specs.Places.{catalog_place}
 use Rattle.mn_law.specs.Answers.{ShowsAnswer}
 use Rattle.mn_law.specs.Run.{IsLegalBy}
 use Rattle.mn_run_examples.proofs.TwoNodes.{node, client, id, prepare}
-use Rattle.mn_run_examples.proofs.Entries.{AreLegal, own, called}
-use Rattle.mn_run_examples.proofs.PlannedPut.{put, plan, looked, issued, voted, legal_issued, legal_voted}
+use Rattle.mn_run_examples.proofs.Entries.{AreLegal, own, answered, called, read_of}
+use Rattle.mn_run_examples.proofs.Tries.{put, plan}
+use Rattle.mn_run_examples.proofs.PlannedSplit.{looked, issued, voted, legal_issued, legal_voted}
 
 -- Node 1 is down: the plan is given up, and node 0 is told
 
@@ -37,7 +39,7 @@ legal_told = (
   record { actor = lit≤ tt; node = tt; step = ((refl, refl), tt) },
 )
 
-down_answered : IsLegalBy told (own (Did.Answered 2 (Gives.Down (node 1))))
+down_answered : IsLegalBy told (answered (Gives.Down (node 1)))
 down_answered = record { actor = lit≤ tt; node = tt; step = ((put, refl), (refl, (refl, refl))) }
 
 -- not by the other node, and not before the plan is given up
@@ -68,7 +70,7 @@ legal_given_up = (
   record { actor = lit≤ tt; node = tt; step = ((plan, refl, refl), tt) },
 )
 
-stopped_answered : IsLegalBy given_up (own (Did.Answered 2 (Gives.Down (node 0))))
+stopped_answered : IsLegalBy given_up (answered (Gives.Down (node 0)))
 stopped_answered = record { actor = lit≤ tt; node = tt; step = ((put, refl), (refl, (refl, refl))) }
 
 first_leaves_no_doubt : ShowsAnswer given_up (since_begin given_up) put (Gives.InDoubt (id 0 2) (node 0))
@@ -90,7 +92,7 @@ legal_stops_last = (
   },
 )
 
-doubt_answered : IsLegalBy stops_last (own (Did.Answered 2 (Gives.InDoubt (id 0 2) (node 1))))
+doubt_answered : IsLegalBy stops_last (answered (Gives.InDoubt (id 0 2) (node 1)))
 doubt_answered = record {
   actor = lit≤ tt;
   node = tt;
@@ -104,7 +106,7 @@ doubt_answered = record {
         (record {
           entry = own (Did.Issue (id 0 2) plan);
           later = record { node = Some (node 1); client = Some (client 0); what = Did.Stopped (Some (prepare 0 2 plan 1)) None } ∷ called 0 (prepare 0 2 plan 0) (Say.Done []) ∷ [];
-          earlier = [];
+          earlier = record { tid = id 0 1; mini = read_of catalog_place } ∷ [];
           split = refl;
           here = refl;
           none_later = refl;

@@ -1,10 +1,12 @@
 -- Entries of one client over two nodes, for worked examples: a list is put together of them, newest
 -- first.
-use Rattle.std.proofs.Common.{◌≡◌, ℕ, zero, suc, ◌+◌, ◌⊎◌, inl, inr, Bool, true, false, ◌&&◌, List, [], ◌∷◌, ◌++◌, Option, Some, None, if◌then◌else◌, refl, subst, sym, ap, ◌∙◌, arith, lit<, lit≤, Contains}
+use Rattle.std.proofs.Common.{◌≡◌, ℕ, zero, suc, ◌+◌, ◌<◌, ◌⊎◌, inl, inr, Bool, true, false, ◌&&◌, List, [], ◌∷◌, ◌++◌, Option, Some, None, if◌then◌else◌, refl, subst, sym, ap, ◌∙◌, arith, lit<, lit≤, Contains}
 use Rattle.std.specs.Prelude.{⊤}
 use Rattle.std.specs.List.{flat_map}
 use Rattle.std.proofs.lemmas.List.Elements.{Contains-append_left, Contains-append_right}
 use Rattle.std.proofs.lemmas.Grind.{flat_map-append}
+use Rattle.mn_base.specs.declared.ids.Addr.{Addr}
+use Rattle.mn_base.specs.declared.ids.NodeNo.{NodeNo}
 use Rattle.mn_base.specs.declared.ids.VersionNo.{VersionNo}
 use Rattle.mn_base.specs.Store.{Head, head_named, refusal, refusal_at}
 use Rattle.mn_base.specs.declared.op.Step.TheVariants.{Get}
@@ -29,9 +31,9 @@ use Rattle.mn_runs.specs.declared.entry.What.TheVariants as Did
 use Rattle.mn_runs.specs.Calls.{Call, calls_of, Issued, issues_of}
 use Rattle.mn_runs.specs.Clients.{is_plan}
 use Rattle.mn_runs.specs.Seen.{Place, Seen, seen_by, seen_in}
-use Rattle.mn_law.specs.Places.{catalog_place}
+use Rattle.mn_law.specs.Places.{page_place, entry_place, catalog_place}
 use Rattle.mn_law.specs.Answers.{LastIssue}
-use Rattle.mn_law.specs.Shown.{SeesCatalog}
+use Rattle.mn_law.specs.Shown.{SeesCatalog, TellsPlace}
 use Rattle.mn_law.specs.Run.{IsLegalBy}
 use Rattle.mn_run_examples.proofs.TwoNodes.{node, client, id}
 use Rattle.mn_runs.proofs.NewCalls.{calls_append}
@@ -139,6 +141,12 @@ values_refuse_nothing heads name k found e = at (head_named heads name) e
     at : (h : Option Head) → refusal_at heads (Tx name (Get k ∷ [])) h ≡ Some (Values found) → ⊥
     at None e = cc
     at (Some h) e = frozen h.frozen e
+
+-- a read of a page tells no entry
+pub page_tells_no_entry : (addr : Addr) (bytes : List ℕ) (n : NodeNo) (v : ℕ) (other : List ℕ)
+    → v < 64 → TellsPlace (seen (page_place addr) bytes) (entry_place n v) other → ⊥
+page_tells_no_entry addr bytes n v other few (inl gives) = let low = gives.begins in absurd (omega arith)
+page_tells_no_entry addr bytes n v other few (inr (entry, gives)) = let low = gives.begins in absurd (omega arith)
 
 -- Lists that are put together
 

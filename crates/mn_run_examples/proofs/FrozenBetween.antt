@@ -17,7 +17,7 @@ use Rattle.mn_mini.specs.Node.{answer}
 use Rattle.mn_page.specs.declared.entry.CatEntry.{CatEntry}
 use Rattle.mn_page.specs.Grammar.{padded, entry_bytes, IsEntry}
 use Rattle.mn_page.specs.Forest.{main_entry}
-use Rattle.mn_page.specs.Base.{base_of}
+use Rattle.mn_page.specs.Base.{base_of, base_front}
 use Rattle.mn_runs.specs.declared.entry.Entry.{Entry}
 use Rattle.mn_runs.specs.declared.entry.What.TheVariants.{Begin, Issue, Called, Answered}
 use Rattle.mn_runs.specs.Calls.{client_entries, since_begin}
@@ -141,7 +141,7 @@ sound_b = record {
 }
 
 keeps_planned : FollowsProtocol start a_planned
-unfolding base_of
+unfolding base_of base_front
 keeps_planned = (
   (
     (
@@ -172,7 +172,7 @@ keeps_planned = (
 )
 
 keeps_b : FollowsProtocol start b_told
-unfolding base_of
+unfolding base_of base_front
 keeps_b = (
   (
     (
@@ -198,7 +198,7 @@ keeps_b = (
 )
 
 keeps_a : FollowsProtocol start a_told
-unfolding base_of
+unfolding base_of base_front
 keeps_a = (
   (
     (
@@ -230,16 +230,16 @@ refused_example : refused ≡ record {
   client = Some (client 0);
   what = Called (exec 0 2 a_plan) (Say.BadCompare 0 (entry_bytes frozen_main));
 } ∷ b_told
-unfolding base_of
+unfolding base_of base_front
 refused_example = refl
 
 moved_example : RefusedAs (seen_in (client_entries (client 0) b_told)) (node 0) (exec 0 2 a_plan) (Say.BadCompare 0 (entry_bytes frozen_main)) (Moved (node 0) 64 (entry_bytes main_entry) (entry_bytes frozen_main))
-unfolding base_of
+unfolding base_of base_front
 moved_example = (
   64,
   entry_bytes main_entry,
   refl,
-  (
+  inl (
     record {
       place = catalog_place;
       bytes = padded 4096 (entry_bytes main_entry);
@@ -279,7 +279,7 @@ catalog_shows = (frozen_main ∷ (child ∷ []), (refl, lit≤ tt, (frozen_is_en
 
 -- and that is what shows the answer
 answer_example : ShowsAnswer (client_entries (client 0) read_again) (since_begin (client_entries (client 0) read_again)) a (Replied Frozen)
-unfolding base_of
+unfolding base_of base_front
 answer_example = inr (inl (
   refl,
   record {
@@ -301,11 +301,11 @@ answer_example = inr (inl (
 
 -- b's plan is committed inside a's first try; a has its place at its second catalog read
 commits_example : commits a_told ≡ (10, id 0 3) ∷ (6, id 1 1) ∷ (2, id 0 1) ∷ []
-unfolding base_of
+unfolding base_of base_front
 commits_example = refl
 
 place_example : LastShown (client 0) a Frozen read_again 10
-unfolding base_of
+unfolding base_of base_front
 place_example = inl (
   (
     refl,

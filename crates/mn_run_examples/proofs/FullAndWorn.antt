@@ -23,62 +23,13 @@ use Rattle.mn_law.specs.Run.{IsLegalBy}
 use Rattle.mn_run_examples.proofs.TwoNodes.{node}
 use Rattle.mn_run_examples.proofs.Entries.{begin, answered, called, read, seen, catalog_of, version, pair}
 use Rattle.mn_run_examples.proofs.Scans.{entries, entry_rules, frozen_main, m2}
-use Rattle.mn_run_examples.proofs.Tries.{catalog_bytes, catalog_seen, sees_catalog, put, locked, first_try}
+use Rattle.mn_run_examples.proofs.Tries.{leaf, catalog_bytes, leaf_bytes, catalog_seen, sees_catalog, leaf_spelled, put, locked, first_try}
 
 -- What the later try reads
-
--- the leaf has eight pairs, and k7 would be the ninth
-abbrev full_leaf : Page
-full_leaf = record {
-  seq = 8;
-  made = version 1;
-  copied = 0;
-  low = [];
-  high = None;
-  body = Leaf (pair 1 ∷ pair 2 ∷ pair 3 ∷ pair 4 ∷ pair 5 ∷ pair 6 ∷ pair 8 ∷ pair 9 ∷ []);
-}
 
 -- the leaf has the last number
 abbrev worn_leaf : Page
 worn_leaf = record { seq = 2 ^ 64 - 1; made = version 1; copied = 0; low = []; high = None; body = Leaf (pair 3 ∷ pair 7 ∷ []) }
-
-full_is_page : IsPage full_leaf
-full_is_page = record {
-  seq_low = lit≤ tt;
-  seq_high = lit< tt;
-  made = lit< tt;
-  copied = lit< tt;
-  copied_above = refl;
-  low = (lit≤ tt, refl);
-  high = tt;
-  fences = refl;
-  body = (
-    lit≤ tt,
-    refl,
-    (
-      ((lit≤ tt, lit≤ tt, refl), (lit≤ tt, refl), refl),
-      (
-        ((lit≤ tt, lit≤ tt, refl), (lit≤ tt, refl), refl),
-        (
-          ((lit≤ tt, lit≤ tt, refl), (lit≤ tt, refl), refl),
-          (
-            ((lit≤ tt, lit≤ tt, refl), (lit≤ tt, refl), refl),
-            (
-              ((lit≤ tt, lit≤ tt, refl), (lit≤ tt, refl), refl),
-              (
-                ((lit≤ tt, lit≤ tt, refl), (lit≤ tt, refl), refl),
-                (
-                  ((lit≤ tt, lit≤ tt, refl), (lit≤ tt, refl), refl),
-                  (((lit≤ tt, lit≤ tt, refl), (lit≤ tt, refl), refl), tt),
-                ),
-              ),
-            ),
-          ),
-        ),
-      ),
-    ),
-  );
-}
 
 worn_is_page : IsPage worn_leaf
 worn_is_page = record {
@@ -93,15 +44,8 @@ worn_is_page = record {
   body = (lit≤ tt, refl, (((lit≤ tt, lit≤ tt, refl), (lit≤ tt, refl), refl), (((lit≤ tt, lit≤ tt, refl), (lit≤ tt, refl), refl), tt)));
 }
 
-pub full_bytes : List ℕ
-full_bytes = page_bytes full_leaf
-
 worn_bytes : List ℕ
 worn_bytes = page_bytes worn_leaf
-
-full_spelled : SpellsPage full_bytes full_leaf
-unfolding full_bytes
-full_spelled = (full_is_page, refl)
 
 worn_spelled : SpellsPage worn_bytes worn_leaf
 unfolding worn_bytes
@@ -117,7 +61,7 @@ last_number_shown = refl
 -- which leave one slot
 abbrev full_try : List Entry
 full_try =
-    read 6 (count_place (node 1)) (big_bytes 8 4096) ++ read 5 (count_place (node 0)) (big_bytes 8 4095) ++ read 4 (page_place (at 1 1)) full_bytes ++ read 3 catalog_place catalog_bytes ++ locked.after 0
+    read 6 (count_place (node 1)) (big_bytes 8 4096) ++ read 5 (count_place (node 0)) (big_bytes 8 4095) ++ read 4 (page_place (at 1 1)) leaf_bytes ++ read 3 catalog_place catalog_bytes ++ locked.after 0
 
 abbrev full_tries : List Entry
 full_tries = full_try ++ first_try
@@ -129,12 +73,12 @@ two_slots = (
     catalog = catalog_seen;
     version = version 1;
     entry = m2;
-    pages = record { addr = at 1 1; page = full_leaf } ∷ [];
+    pages = record { addr = at 1 1; page = leaf } ∷ [];
     seen = ((3, lit< tt, refl), sees_catalog);
     named = refl;
     at = refl;
     admitted = refl;
-    read = ((seen (page_place (at 1 1)) full_bytes, (2, lit< tt, refl), (refl, full_spelled)), tt);
+    read = ((seen (page_place (at 1 1)) leaf_bytes, (2, lit< tt, refl), (refl, leaf_spelled)), tt);
   },
   refl,
 )
@@ -230,12 +174,12 @@ snapshot = Snapshot m2.name (120 ∷ [])
 -- the first try was not refused: it looked at the root and the counts, and would be Worn as well
 abbrev pub snapshot_first : List Entry
 snapshot_first =
-    called 1 (Ask.Peek 16 8) (Say.Peeked (big_bytes 8 7)) ∷ called 0 (Ask.Peek 16 8) (Say.Peeked (big_bytes 8 6)) ∷ called 1 (Ask.Peek 21504 1024) (Say.Peeked full_bytes)
+    called 1 (Ask.Peek 16 8) (Say.Peeked (big_bytes 8 7)) ∷ called 0 (Ask.Peek 16 8) (Say.Peeked (big_bytes 8 6)) ∷ called 1 (Ask.Peek 21504 1024) (Say.Peeked leaf_bytes)
     ∷ read 1 catalog_place worn_catalog
 
 abbrev snapshot_try : List Entry
 snapshot_try =
-    read 5 (count_place (node 1)) (big_bytes 8 7) ++ read 4 (count_place (node 0)) (big_bytes 8 6) ++ read 3 (page_place (at 1 1)) full_bytes ++ read 2 catalog_place worn_catalog
+    read 5 (count_place (node 1)) (big_bytes 8 7) ++ read 4 (count_place (node 0)) (big_bytes 8 6) ++ read 3 (page_place (at 1 1)) leaf_bytes ++ read 2 catalog_place worn_catalog
 
 writes_entry : WritesOld (seen_in snapshot_try) snapshot (entry_place catalog_node 1)
 writes_entry = (
@@ -244,12 +188,12 @@ writes_entry = (
     catalog = worn_catalog_seen;
     version = version 1;
     entry = worn_m2;
-    pages = record { addr = at 1 1; page = full_leaf } ∷ [];
+    pages = record { addr = at 1 1; page = leaf } ∷ [];
     seen = ((3, lit< tt, refl), sees_worn);
     named = refl;
     at = refl;
     admitted = refl;
-    read = ((seen (page_place (at 1 1)) full_bytes, (2, lit< tt, refl), (refl, full_spelled)), tt);
+    read = ((seen (page_place (at 1 1)) leaf_bytes, (2, lit< tt, refl), (refl, leaf_spelled)), tt);
   },
   inr refl,
 )

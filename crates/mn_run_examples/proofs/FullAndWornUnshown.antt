@@ -20,8 +20,8 @@ use Rattle.mn_runs.specs.Calls.{calls_of}
 use Rattle.mn_law.specs.Answers.{FreeSlots, ShowsBytes, LastTry, is_any_decide, none_refused, reads_anew, ShowsAnswer}
 use Rattle.mn_run_examples.proofs.TwoNodes.{node}
 use Rattle.mn_run_examples.proofs.Entries.{called, read, seen, version, pair, one_of_three, seen_in_part}
-use Rattle.mn_run_examples.proofs.Tries.{catalog_bytes, catalog_seen, put, locked, first_try}
-use Rattle.mn_run_examples.proofs.FullAndWorn.{full_bytes, snapshot, snapshot_first}
+use Rattle.mn_run_examples.proofs.Tries.{catalog_bytes, leaf_bytes, leaf_seen, catalog_seen, put, locked, first_try}
+use Rattle.mn_run_examples.proofs.FullAndWorn.{snapshot, snapshot_first}
 
 -- no seen bytes of a list stand where these do
 none_shows : (x y z : Seen) (seens : List Seen) (n : NodeNo) (start : ℕ) (bytes : List ℕ)
@@ -34,12 +34,9 @@ none_shows x y z seens n start bytes inside apart (s, has, here, low, are) = apa
 abbrev peeked_counts : List Entry
 peeked_counts =
     called 1 (Ask.Peek 16 8) (Say.Peeked (big_bytes 8 4096)) ∷ called 0 (Ask.Peek 16 8) (Say.Peeked (big_bytes 8 4095))
-    ∷ read 4 (page_place (at 1 1)) full_bytes ++ read 3 catalog_place catalog_bytes ++ locked.after 0 ++ first_try
+    ∷ read 4 (page_place (at 1 1)) leaf_bytes ++ read 3 catalog_place catalog_bytes ++ locked.after 0 ++ first_try
 
-abbrev full_seen : Seen
-full_seen = seen (page_place (at 1 1)) full_bytes
-
-no_count : (bytes : List ℕ) (s : Seen) → (full_seen ≡ s) ⊎ (catalog_seen ≡ s) ⊎ (catalog_seen ≡ s)
+no_count : (bytes : List ℕ) (s : Seen) → (leaf_seen ≡ s) ⊎ (catalog_seen ≡ s) ⊎ (catalog_seen ≡ s)
     → s.place.node ≡ node 0 → s.place.start ≤ 16
     → bytes_in s.bytes (16 - s.place.start) (length bytes) ≡ bytes → ⊥
 no_count bytes s (inl is) here low are = let e = ap (λ (x : Seen). x.place.start) is in absurd (omega arith)
@@ -47,10 +44,10 @@ no_count bytes s (inr (inl is)) here low are = let e = ap (λ (x : Seen). x.plac
 no_count bytes s (inr (inr is)) here low are = let e = ap (λ (x : Seen). x.place.start) is in absurd (omega arith)
 
 no_free_slots : (seens : List Seen) (free : ℕ)
-    → ((s : Seen) → Contains seens s → Contains (full_seen ∷ catalog_seen ∷ catalog_seen ∷ []) s)
+    → ((s : Seen) → Contains seens s → Contains (leaf_seen ∷ catalog_seen ∷ catalog_seen ∷ []) s)
     → FreeSlots 2 seens free → ⊥
 no_free_slots seens free inside ([], many, sum, shown) = absurd (omega arith)
-no_free_slots seens free inside (c ∷ cs, many, sum, shown) = none_shows full_seen catalog_seen catalog_seen seens (node 0) 16 (big_bytes 8 c) inside (no_count (big_bytes 8 c)) (shown (node 0) c refl)
+no_free_slots seens free inside (c ∷ cs, many, sum, shown) = none_shows leaf_seen catalog_seen catalog_seen seens (node 0) 16 (big_bytes 8 c) inside (no_count (big_bytes 8 c)) (shown (node 0) c refl)
 
 peeked_shows_no_full : (es : List Entry) (need free : ℕ)
     → ShowsAnswer es peeked_counts put (Gives.Full need free) → ⊥

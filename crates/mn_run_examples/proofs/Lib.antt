@@ -16,6 +16,7 @@ pub mod ScansUnshown
 pub mod PlannedPut
 pub mod NewPages
 pub mod Tries
+pub mod PlannedSplit
 pub mod BusyTries
 pub mod SevenTries
 pub mod FullAndWorn

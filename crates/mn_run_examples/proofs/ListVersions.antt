@@ -11,7 +11,7 @@ use Rattle.mn_mini.specs.declared.request.Request.TheVariants as Ask
 use Rattle.mn_mini.specs.Mini.{Mini, part_of}
 use Rattle.mn_page.specs.Grammar.{padded, entry_bytes, IsEntry}
 use Rattle.mn_page.specs.Forest.{main_entry}
-use Rattle.mn_page.specs.Base.{base_of}
+use Rattle.mn_page.specs.Base.{base_of, base_front}
 use Rattle.mn_runs.specs.declared.entry.Entry.{Entry}
 use Rattle.mn_runs.specs.declared.entry.What.TheVariants.{Begin, Answered}
 use Rattle.mn_runs.specs.Protocol.{Start, start_of}
@@ -80,14 +80,14 @@ run_issued = (
 )
 
 run_done : IsRun start done
-unfolding base_of
+unfolding base_of base_front
 run_done = (
   run_issued,
   record { keeps = record { actor = lit≤ tt; at_node = (lit< tt, refl); by_client = record { mini = reads; issued = refl; alone = refl; own_part = refl; once = refl; open_still = refl }; of_run = tt }; means = tt },
 )
 
 run_answered : IsRun start answered
-unfolding base_of
+unfolding base_of base_front
 run_answered = (
   run_done,
   record {
@@ -100,7 +100,7 @@ abbrev placed : List Placed
 placed = record { place = 2; past = record { client = client 0; number = 1; op = Versions; reply = reply } } ∷ []
 
 history_is : IsHistory answered placed
-unfolding base_of
+unfolding base_of base_front
 history_is = ([], ([], ([], ([], refl, refl), refl), refl), (2, inl ((refl, (seen, (0, lit< tt, refl), inr catalog_shows)), refl), refl))
 
 history_legal : IsLegal empty_store (pasts_of placed)

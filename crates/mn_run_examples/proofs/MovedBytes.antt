@@ -1,5 +1,5 @@
 -- Two clients change one byte: the first try of one finds the other's byte, its second succeeds.
-use Rattle.std.proofs.Common.{◌≡◌, ℕ, true, List, [], ◌∷◌, ◌++◌, replicate, Some, None, refl, lit<, lit≤}
+use Rattle.std.proofs.Common.{◌≡◌, ℕ, true, inl, List, [], ◌∷◌, ◌++◌, replicate, Some, None, refl, lit<, lit≤}
 use Rattle.mn_base.specs.declared.op.Step.TheVariants.{Get, Put}
 use Rattle.mn_base.specs.declared.op.Op.{Op}
 use Rattle.mn_base.specs.declared.op.Op.TheVariants.{Tx}
@@ -13,7 +13,7 @@ use Rattle.mn_mini.specs.declared.request.Request.{Request}
 use Rattle.mn_mini.specs.declared.request.Request.TheVariants as Ask
 use Rattle.mn_mini.specs.declared.reply.NodeReply.TheVariants as Say
 use Rattle.mn_mini.specs.Mini.{Mini, IsSound, part_of}
-use Rattle.mn_page.specs.Base.{base_of}
+use Rattle.mn_page.specs.Base.{base_of, base_front}
 use Rattle.mn_runs.specs.declared.entry.Entry.{Entry}
 use Rattle.mn_runs.specs.declared.entry.What.TheVariants.{Begin, Called, Answered}
 use Rattle.mn_runs.specs.Calls.{client_entries, under_way, since_begin}
@@ -110,7 +110,7 @@ sound_swaps old new = record {
 }
 
 keeps_read : FollowsProtocol start a_read
-unfolding base_of
+unfolding base_of base_front
 keeps_read = (
   (
     (tt, record { actor = lit≤ tt; at_node = tt; by_client = (refl, refl); of_run = tt }),
@@ -130,7 +130,7 @@ keeps_read = (
 )
 
 keeps_planned : FollowsProtocol start a_planned
-unfolding base_of
+unfolding base_of base_front
 keeps_planned = (
   keeps_read,
   record {
@@ -142,7 +142,7 @@ keeps_planned = (
 )
 
 keeps_b_planned : FollowsProtocol start b_planned
-unfolding base_of
+unfolding base_of base_front
 keeps_b_planned = (
   (keeps_planned, record { actor = lit≤ tt; at_node = tt; by_client = (refl, refl); of_run = tt }),
   record {
@@ -154,7 +154,7 @@ keeps_b_planned = (
 )
 
 keeps_b : FollowsProtocol start b_told
-unfolding base_of
+unfolding base_of base_front
 keeps_b = (
   (
     keeps_b_planned,
@@ -169,7 +169,7 @@ keeps_b = (
 )
 
 keeps_refusal : FollowsProtocol start refused
-unfolding base_of
+unfolding base_of base_front
 keeps_refusal = (
   keeps_b,
   record {
@@ -181,7 +181,7 @@ keeps_refusal = (
 )
 
 keeps_again : FollowsProtocol start planned_again
-unfolding base_of
+unfolding base_of base_front
 keeps_again = (
   (
     (
@@ -209,7 +209,7 @@ keeps_again = (
 )
 
 keeps_a : FollowsProtocol start a_told
-unfolding base_of
+unfolding base_of base_front
 keeps_a = (
   (
     keeps_again,
@@ -230,17 +230,17 @@ refused_example : refused ≡ record {
   client = Some (client 0);
   what = Called (exec 0 2 (swaps 0 97)) (Say.BadCompare 0 (98 ∷ []));
 } ∷ b_told
-unfolding base_of
+unfolding base_of base_front
 refused_example = refl
 
 -- it expected the byte that its read had shown
 moved_example : RefusedAs (seen_in (client_entries (client 0) b_told)) (node 0) (exec 0 2 (swaps 0 97)) (Say.BadCompare 0 (98 ∷ [])) (Moved (node 0) 20 (0 ∷ []) (98 ∷ []))
-unfolding base_of
+unfolding base_of base_front
 moved_example = (
   20,
   0 ∷ [],
   refl,
-  (
+  inl (
     record {
       place = record { node = node 0; start = 20; length = 1 };
       bytes = 0 ∷ [];
@@ -258,37 +258,37 @@ given_up_example : is_given_up (client_entries (client 0) refused) (record {
   tid = id 0 2;
   mini = swaps 0 97;
 }) ≡ true
-unfolding base_of
+unfolding base_of base_front
 given_up_example = refl
 
 over_example : is_over (since_begin (client_entries (client 0) refused)) (record {
   tid = id 0 2;
   mini = swaps 0 97;
 }) ≡ true
-unfolding base_of
+unfolding base_of base_front
 over_example = refl
 
 -- both plans are committed where they are done, and each read at its own place: b's lies between
 -- a's first read and its refusal
 commits_example : commits a_told ≡ (12, id 0 4) ∷ (10, id 0 3) ∷ (6, id 1 1) ∷ (2, id 0 1) ∷ []
-unfolding base_of
+unfolding base_of base_front
 commits_example = refl
 
 under_way_example : under_way (client_entries (client 0) refused) ≡ Some (record {
   number = 1;
   op = a;
 })
-unfolding base_of
+unfolding base_of base_front
 under_way_example = refl
 
 ended_example : under_way (client_entries (client 0) a_told) ≡ None
-unfolding base_of
+unfolding base_of base_front
 ended_example = refl
 
 records_example : records_of start a_told (node 0) ≡ Executed (id 0 4) (part_of (swaps 98 97) (node 0)) ∷ Executed (id 1 1) (part_of (swaps 0 98) (node 0)) ∷ []
-unfolding base_of
+unfolding base_of base_front
 records_example = refl
 
 flat_example : flat_after memory a_told ≡ (replicate 20 0 ++ 97 ∷ [] ++ replicate 11 0) ∷ replicate 32 0 ∷ []
-unfolding base_of
+unfolding base_of base_front
 flat_example = refl

@@ -1,27 +1,25 @@
 -- Lists and records that the rules of sequence numbers refuse.
-use Rattle.std.proofs.Common.{◌≡◌, ℕ, ◌+◌, ◌<◌, ◌≤◌, inl, inr, true, List, [], ◌∷◌, ◌++◌, length, replicate, Some, None, refl, ap, subst, sym, ◌∙◌, arith, lit<, lit≤, get_or}
+use Rattle.std.proofs.Common.{◌≡◌, ℕ, ◌+◌, ◌<◌, ◌≤◌, inl, inr, List, [], ◌∷◌, ◌++◌, replicate, None, refl, ap, arith, lit<, lit≤, get_or}
 use Rattle.byteorder.specs.Endian.{big_bytes}
 use Rattle.mn_base.specs.declared.ids.NodeNo.{NodeNo}
 use Rattle.mn_base.specs.declared.reply.Reply.TheVariants.{Values}
 use Rattle.mn_mini.specs.declared.part.PartItem.TheVariants as Bare
 use Rattle.mn_mini.specs.declared.record.Record.{Record}
 use Rattle.mn_mini.specs.declared.record.Record.TheVariants.{Voted}
-use Rattle.mn_mini.specs.Mini.{Mini}
 use Rattle.mn_page.specs.declared.page.Page.{Page}
 use Rattle.mn_page.specs.declared.page.Body.TheVariants.{Leaf}
 use Rattle.mn_page.specs.Grammar.{page_bytes}
 use Rattle.mn_page.specs.Forest.{main_entry, heads_in}
 use Rattle.mn_page.proofs.Examples.Spelling.{at}
-use Rattle.mn_runs.specs.declared.entry.Entry.{Entry}
-use Rattle.mn_runs.specs.Seen.{Place, Seen}
+use Rattle.mn_runs.specs.Seen.{Seen}
 use Rattle.mn_law.specs.Places.{page_place}
-use Rattle.mn_law.specs.Shown.{shown_in, FirstGives, ShowsNumber}
+use Rattle.mn_law.specs.Shown.{FirstGives, ShowsNumber}
 use Rattle.mn_law.specs.Planned.{IsPlanned}
-use Rattle.mn_runs.specs.Sound.{is_committed}
 use Rattle.mn_law.specs.Opened.{HeldAreGreater}
+use Rattle.mn_law.proofs.Last.{told_part}
 use Rattle.mn_runs.proofs.Seen.{nothing}
 use Rattle.mn_run_examples.proofs.TwoNodes.{node, id}
-use Rattle.mn_run_examples.proofs.Entries.{seen, version, key, pair}
+use Rattle.mn_run_examples.proofs.Entries.{seen, version}
 use Rattle.mn_run_examples.proofs.PlannedPut.{put, plan}
 
 -- a plan that compares the number of a page that was never read is not planned
@@ -44,14 +42,14 @@ both = seen (page_place (at 1 1)) (page_bytes other) ∷ seen (page_place (at 1 
 
 -- the newer one was shown last, and not the older one
 newer_is_last : FirstGives both (page_place (at 1 1)) (big_bytes 8 3) (page_bytes other)
-newer_is_last = inl (record { node = refl; begins = lit≤ tt; ends = lit≤ tt; part = refl }, refl)
+newer_is_last = inl (inl (record { node = refl; begins = lit≤ tt; ends = lit≤ tt; part = refl }), refl)
 
 older_is_not_last : FirstGives both (page_place (at 1 1)) (big_bytes 8 3) (page_bytes older) → ⊥
-older_is_not_last (inl gives) = differ (ap (λ (l : List ℕ). get_or l 11 0) gives.0.part)
+older_is_not_last (inl gives) = differ (ap (λ (l : List ℕ). get_or l 11 0) (told_part (seen (page_place (at 1 1)) (page_bytes other)) (page_place (at 1 1)) (page_bytes older) gives.0))
   where
     differ : ◌≡◌ {A = ℕ} 2 1 → ⊥
     differ e = absurd (omega arith)
-older_is_not_last (inr (never, rest)) = never (page_bytes other) (record { node = refl; begins = lit≤ tt; ends = lit≤ tt; part = refl }, refl)
+older_is_not_last (inr (never, rest)) = never (page_bytes other) (inl (record { node = refl; begins = lit≤ tt; ends = lit≤ tt; part = refl }), refl)
 
 -- Records
 

@@ -1,30 +1,38 @@
--- A Put in place answered by its plan, of two participants, by a catalog that an earlier operation
--- read; and lists that don't answer it so.
-use Rattle.std.proofs.Common.{◌≡◌, ℕ, inl, inr, true, false, List, [], ◌∷◌, ◌++◌, ◌≤◌, refl, ap, ◌∙◌, arith, lit<, lit≤}
-use Rattle.mn_base.specs.Store.{Head, listing_of}
+-- A Put in place answered by its plan at the node of its leaf, by a catalog that an earlier
+-- operation read; a list that doesn't answer it so, and a plan that compares the entry elsewhere.
+use Rattle.std.proofs.Common.{◌≡◌, ℕ, ◌+◌, inl, inr, true, false, List, [], ◌∷◌, ◌++◌, Some, refl, ap, ◌∙◌, arith, lit<, lit≤}
+use Rattle.byteorder.specs.Endian.{big_bytes}
+use Rattle.mn_base.specs.Store.{Head, Store, heads_of, listing_of, number_named, pairs_with}
+use Rattle.mn_base.specs.declared.ids.Addr.{Addr}
 use Rattle.mn_base.specs.declared.ids.NodeNo.{NodeNo}
 use Rattle.mn_base.specs.declared.op.Step.TheVariants.{Put}
 use Rattle.mn_base.specs.declared.op.Op.{Op}
 use Rattle.mn_base.specs.declared.op.Op.TheVariants.{Tx, Versions}
 use Rattle.mn_base.specs.declared.reply.Reply.TheVariants.{Values, Listing}
 use Rattle.mn_base.specs.declared.answer.Answer.TheVariants.{Replied}
+use Rattle.mn_base.specs.declared.answer.Busy.TheVariants.{Moved}
+use Rattle.mn_mini.specs.declared.request.Request.{Request}
 use Rattle.mn_mini.specs.declared.request.Request.TheVariants as Ask
 use Rattle.mn_mini.specs.declared.reply.NodeReply.TheVariants as Say
-use Rattle.mn_mini.specs.Mini.{Mini, IsSound}
+use Rattle.mn_mini.specs.Mini.{Mini, IsSound, part_of}
 use Rattle.mn_page.specs.Grammar.{page_bytes}
-use Rattle.mn_page.specs.Forest.{main_entry, heads_in}
+use Rattle.mn_page.specs.Forest.{Forest, main_entry, heads_in}
+use Rattle.mn_page.specs.Holds.{Holds}
 use Rattle.mn_page.proofs.Examples.Spelling.{at}
 use Rattle.mn_runs.specs.declared.entry.Entry.{Entry}
 use Rattle.mn_runs.specs.declared.entry.What.TheVariants as Did
 use Rattle.mn_runs.specs.Calls.{since_begin, Issued}
-use Rattle.mn_law.specs.Places.{catalog_place}
-use Rattle.mn_law.specs.Planned.{IsPlanned}
-use Rattle.mn_plans.specs.Plans.{IsLeafWithRoom, put_in_place, ShowsPage, ShowsEntry}
-use Rattle.mn_law.specs.Answers.{all_done, IsPlanBy, LastPlanReplies, ShowsAnswer, MeansBy}
+use Rattle.mn_runs.specs.Seen.{Place}
+use Rattle.mn_law.specs.Places.{page_place, entry_place, count_place, catalog_place, front_place}
+use Rattle.mn_law.specs.Planned.{IsCompared, IsComparedFront, PlanActs, IsPlanned}
+use Rattle.mn_plans.specs.Plans.{IsLeafWithRoom, next_leaf, put_in_place, compare_page, compare_entry, write_page, ShowsPage, ShowsEntry}
+use Rattle.mn_law.specs.Answers.{all_done, FailsAs, IsPlanBy, LastPlanReplies, ShowsAnswer}
 use Rattle.mn_law.specs.Run.{IsLegalBy}
+use Rattle.mn_law.proofs.Sees.{brought_since}
+use Rattle.mn_runs.proofs.Seen.{nothing}
 use Rattle.mn_plans.proofs.PutInPlace.{put_is_planned}
-use Rattle.mn_run_examples.proofs.TwoNodes.{node, id, prepare}
-use Rattle.mn_run_examples.proofs.Entries.{AreLegal, own, begin, answered, called, read, issue_read, exec_read, seen, catalog_of, main, sees_main, key, pair}
+use Rattle.mn_run_examples.proofs.TwoNodes.{node, id}
+use Rattle.mn_run_examples.proofs.Entries.{AreLegal, own, begin, answered, called, read, issue_read, exec_read, seen, catalog_of, main, sees_main, key, pair, page_tells_no_entry}
 use Rattle.mn_run_examples.proofs.Scans.{root, left, left_is_page}
 
 -- the left leaf of main stands on node 1, and has room for k2
@@ -59,51 +67,46 @@ has_room = record {
 abbrev listed : List Entry
 listed = answered (Replied (Listing (listing_of heads))) ∷ read 1 catalog_place (catalog_of (main_entry ∷ [])) ++ begin Versions ∷ []
 
-abbrev pub looked : List Entry
+abbrev looked : List Entry
 looked =
     called 1 (Ask.Peek 20480 1024) (Say.Peeked (page_bytes left)) ∷ called 0 (Ask.Peek 20480 1024) (Say.Peeked (page_bytes (record root { copied = 0 })))
     ∷ own (Did.Begin 2 put) ∷ listed
 
 leaf_last : ShowsPage looked (at 1 0) left
-leaf_last = inl (record { node = refl; begins = lit≤ tt; ends = lit≤ tt; part = refl }, refl)
+leaf_last = inl (inl (record { node = refl; begins = lit≤ tt; ends = lit≤ tt; part = refl }), refl)
 
-entry_last : ShowsEntry looked 0 main_entry
-entry_last = inr ((λ other gives. on_one (ap (λ (n : NodeNo). n.0) gives.0.node)), inr ((λ other gives. behind gives.0.begins), inl (record { node = refl; begins = lit≤ tt; ends = lit≤ tt; part = refl }, refl)))
-  where
-    on_one : ◌≡◌ {A = ℕ} 1 0 → ⊥
-    on_one e = absurd (omega arith)
-
-    behind : 20480 ≤ 64 → ⊥
-    behind e = absurd (omega arith)
+-- the catalog of node 0 tells the entry that is compared on node 1
+entry_last : ShowsEntry looked (node 1) 0 main_entry
+entry_last = inr (
+  (λ other gives. page_tells_no_entry (at 1 0) (page_bytes left) (node 1) 0 other (lit< tt) gives.0),
+  inr (
+    (λ other gives. page_tells_no_entry (at 0 0) (page_bytes (record root { copied = 0 })) (node 1) 0 other (lit< tt) gives.0),
+    inl (inr ((node 1, 0, lit< tt, refl), record { node = refl; begins = lit≤ tt; ends = lit≤ tt; part = refl }), refl),
+  ),
+)
 
 planned : IsPlanned looked heads put plan (Values [])
 planned = put_is_planned heads 2 main (key 2) (119 ∷ []) 0 main_entry (at 1 0) left (pair 3 ∷ pair 4 ∷ []) has_room looked leaf_last entry_last
 
-abbrev pub issued : List Entry
+abbrev issued : List Entry
 issued = own (Did.Issue (id 0 2) plan) ∷ looked
 
-abbrev pub voted : List Entry
-voted = called 0 (prepare 0 2 plan 0) (Say.Done []) ∷ issued
+abbrev exec : Request
+exec = Ask.Exec (id 0 2) (part_of plan (node 1))
 
-abbrev all_voted : List Entry
-all_voted = called 1 (prepare 0 2 plan 1) (Say.Done []) ∷ voted
+abbrev executed : List Entry
+executed = called 1 exec (Say.Done []) ∷ issued
 
-abbrev told_one : List Entry
-told_one = called 0 (Ask.Decide (id 0 2) true) Say.Decided ∷ all_voted
-
-abbrev told : List Entry
-told = called 1 (Ask.Decide (id 0 2) true) Say.Decided ∷ told_one
-
-pub plan_is_by : IsPlanBy looked put plan (Values [])
+plan_is_by : IsPlanBy looked put plan (Values [])
 plan_is_by = (main_entry ∷ [], (seen catalog_place (catalog_of (main_entry ∷ [])), (0, lit< tt, refl), sees_main), planned)
 
-replied_by_plan : LastPlanReplies told (since_begin told) put (Values [])
+replied_by_plan : LastPlanReplies executed (since_begin executed) put (Values [])
 replied_by_plan = (
   record { tid = id 0 2; mini = plan },
   looked,
   (record {
     entry = own (Did.Issue (id 0 2) plan);
-    later = called 1 (Ask.Decide (id 0 2) true) Say.Decided ∷ called 0 (Ask.Decide (id 0 2) true) Say.Decided ∷ called 1 (prepare 0 2 plan 1) (Say.Done []) ∷ called 0 (prepare 0 2 plan 0) (Say.Done []) ∷ [];
+    later = called 1 exec (Say.Done []) ∷ [];
     earlier = [];
     split = refl;
     here = refl;
@@ -166,65 +169,76 @@ sound_plan = record {
   inside = (((lit< tt, lit< tt), (lit≤ tt, lit≤ tt, lit≤ tt)), (((lit< tt, lit< tt), (lit≤ tt, lit≤ tt, lit≤ tt)), (((lit< tt, lit< tt), (lit≤ tt, lit≤ tt, lit≤ tt)), tt)));
 }
 
-pub legal_issued : AreLegal issued
-legal_issued = (
-  (((legal_listed, record { actor = lit≤ tt; node = tt; step = ((refl, refl), tt) }), record { actor = lit≤ tt; node = tt; step = (tt, tt) }), record { actor = lit≤ tt; node = tt; step = (tt, tt) }),
-  record {
-    actor = lit≤ tt;
-    node = tt;
-    step = (record { under_way = refl; client = refl; serial = refl; kind = refl; sound = sound_plan; after = refl }, (refl, inr (Values [], plan_is_by)));
-  },
+legal_executed : AreLegal executed
+legal_executed = (
+  (
+    (((legal_listed, record { actor = lit≤ tt; node = tt; step = ((refl, refl), tt) }), record { actor = lit≤ tt; node = tt; step = (tt, tt) }), record { actor = lit≤ tt; node = tt; step = (tt, tt) }),
+    record {
+      actor = lit≤ tt;
+      node = tt;
+      step = (record { under_way = refl; client = refl; serial = refl; kind = refl; sound = sound_plan; after = refl }, (refl, inr (Values [], plan_is_by)));
+    },
+  ),
+  record { actor = lit≤ tt; node = tt; step = (record { mini = plan; issued = refl; alone = refl; own_part = refl; once = refl; open_still = refl }, tt) },
 )
 
-pub legal_voted : AreLegal voted
-legal_voted = (
-  legal_issued,
-  record {
-    actor = lit≤ tt;
-    node = tt;
-    step = (record { mini = plan; issued = refl; all = refl; several = lit≤ tt; named = (0, lit< tt, refl); own_part = refl; once = refl; open_still = refl; lower = (λ h. absurd (omega arith), (λ h. absurd (omega arith), tt)) }, tt);
-  },
-)
-
-legal_all_voted : AreLegal all_voted
-legal_all_voted = (
-  legal_voted,
-  record {
-    actor = lit≤ tt;
-    node = tt;
-    step = (record { mini = plan; issued = refl; all = refl; several = lit≤ tt; named = (1, lit< tt, refl); own_part = refl; once = refl; open_still = refl; lower = (λ h. refl, (λ h. absurd (omega arith), tt)) }, tt);
-  },
-)
-
-legal_told : AreLegal told
-legal_told = (
-  (legal_all_voted, record { actor = lit≤ tt; node = tt; step = ((refl, (node 0 ∷ node 1 ∷ [], inl (plan, refl, refl), (refl, (refl, tt)))), tt) }),
-  record { actor = lit≤ tt; node = tt; step = ((refl, (node 0 ∷ node 1 ∷ [], inl (plan, refl, refl), (refl, (refl, tt)))), tt) },
-)
-
-put_answered : IsLegalBy told (own (Did.Answered 2 (Replied (Values []))))
+put_answered : IsLegalBy executed (own (Did.Answered 2 (Replied (Values []))))
 put_answered = record { actor = lit≤ tt; node = tt; step = ((put, refl), (refl, inl replied_by_plan)) }
 
--- Lists that don't answer it so
+-- A list that doesn't answer it so
 
--- one participant was not asked
-one_vote_shows_nothing : ShowsAnswer voted (since_begin voted) put (Replied (Values [])) → ⊥
-one_vote_shows_nothing (inl (i, before, last, plans, by, done)) = not_done (ap (λ (x : Issued). all_done voted x) same ∙ done)
+-- its participant was not asked, and no read shows the reply
+issue_shows_nothing : ShowsAnswer issued (since_begin issued) put (Replied (Values [])) → ⊥
+issue_shows_nothing (inl (i, before, last, plans, by, done)) = not_done (ap (λ (x : Issued). all_done issued x) same ∙ done)
   where
     same : ◌≡◌ {A = Issued} (record { tid = id 0 2; mini = plan }) i
     same = let e = last.of_operation in cc
 
     not_done : false ≡ true → ⊥
     not_done e = cc
-one_vote_shows_nothing (inr (inl (given_up, shown))) = given_up_not given_up
-  where
-    given_up_not : false ≡ true → ⊥
-    given_up_not e = cc
-one_vote_shows_nothing (inr (inr (given_up, scanned))) = scanned
+issue_shows_nothing (inr (inl (given_up, shown))) = nothing shown.seen (brought_since issued (since_begin issued) put _ shown)
+issue_shows_nothing (inr (inr (given_up, scanned))) = scanned
 
--- one that voted yes was not told
-untold_is_not_settled : MeansBy told_one (Did.Answered 2 (Replied (Values []))) → ⊥
-untold_is_not_settled means = absurd (not_settled means.0)
+-- A plan that compares the entry elsewhere
+
+-- on node 0, though all else is on node 1
+abbrev elsewhere : Mini
+elsewhere = record { nodes = 2; items = compare_page (at 1 0) left ∷ compare_entry (node 0) 0 main_entry ∷ write_page (at 1 0) (next_leaf left (pairs_with (pair 3 ∷ pair 4 ∷ []) (key 2) (119 ∷ []))) ∷ [] }
+
+-- that is no place that the plan compares, whatever the forest
+elsewhere_is_not_compared : (f : Forest) (store : Store)
+    → IsComparedFront f store 0 put elsewhere (front_place (entry_place (node 0) 0)) → ⊥
+elsewhere_is_not_compared f store (place, compared, same) = by compared (ap (λ (p : Place). p.node.0) same) (ap (λ (p : Place). p.start) same)
   where
-    not_settled : false ≡ true → ⊥
-    not_settled e = cc
+    no_page : (addr : Addr) → place ≡ page_place addr → 64 ≡ place.start → ⊥
+    no_page addr is start = let at_slot = ap (λ (p : Place). p.start) is in absurd (omega arith)
+
+    no_count : (n : NodeNo) → place ≡ count_place n → 64 ≡ place.start → ⊥
+    no_count n is start = let at_count = ap (λ (p : Place). p.start) is in absurd (omega arith)
+
+    on_one : place ≡ entry_place (node 1) 0 → 0 ≡ place.node.0 → ⊥
+    on_one is on = let behind = ap (λ (p : Place). p.node.0) is in absurd (omega arith)
+
+    by : IsCompared f store 0 put elsewhere place → 0 ≡ place.node.0 → 64 ≡ place.start → ⊥
+    by (inl leaf) on start = no_page leaf.0 leaf.2 start
+    by (inr (inl (changes, is))) on start = on_one is on
+    by (inr (inr (inl old))) on start = no_page old.0 old.2 start
+    by (inr (inr (inr ((n, is), written)))) on start = no_count n is start
+
+-- so it is a plan in no memory that has main
+elsewhere_is_no_plan : (memory : List (List ℕ)) (store : Store) (holds : Holds memory store)
+    → number_named (heads_of store) main ≡ Some 0
+    → PlanActs memory store holds put elsewhere (Values []) → ⊥
+elsewhere_is_no_plan memory store holds named acts =
+    elsewhere_is_not_compared holds.forest store ((acts.compares 0 named (front_place (entry_place (node 0) 0))).0 (1, lit< tt, refl))
+
+-- Where the entry differs
+
+-- a later try reads node 0's catalog; the compare that differs is on node 1
+abbrev moved : List Entry
+moved =
+    called 1 (Ask.Exec (id 0 5) (part_of plan (node 1))) (Say.BadCompare 1 (big_bytes 8 2)) ∷ own (Did.Issue (id 0 5) plan) ∷ read 4 (page_place (at 1 0)) (page_bytes left)
+    ++ read 3 catalog_place (catalog_of (main_entry ∷ []))
+
+moved_fails : FailsAs 2 put moved (Moved (node 1) 64 (big_bytes 8 1) (big_bytes 8 2))
+moved_fails = inl (_, refl, (64, big_bytes 8 1, refl, inr (0, lit< tt, refl, refl, (seen catalog_place (catalog_of (main_entry ∷ [])), (1, lit< tt, refl), refl, lit≤ tt, refl)), refl))

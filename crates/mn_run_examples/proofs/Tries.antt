@@ -1,6 +1,6 @@
--- Tries of one Put, for worked examples: how a later try may end, and eight tries one after
--- another. The catalog and the pages stand behind names.
-use Rattle.std.proofs.Common.{◌≡◌, ℕ, ◌+◌, ◌-◌, ◌≤◌, inl, inr, false, List, [], ◌∷◌, ◌++◌, length, None, refl, ap, lit<, lit≤, subst, sym, arith}
+-- Tries of one Put that splits a full leaf, for worked examples: how a later try may end, and eight
+-- tries one after another. The catalog and the pages stand behind names.
+use Rattle.std.proofs.Common.{◌≡◌, ℕ, ◌+◌, ◌-◌, ◌≤◌, inl, inr, false, List, [], ◌∷◌, ◌++◌, length, Some, None, refl, lit<, lit≤, subst, sym, arith}
 use Rattle.std.specs.List.{flat_map}
 use Rattle.mn_base.specs.declared.op.Step.TheVariants.{Put}
 use Rattle.mn_base.specs.declared.op.Op.{Op}
@@ -12,8 +12,8 @@ use Rattle.mn_base.specs.declared.reply.Reply.TheVariants.{Values}
 use Rattle.mn_mini.specs.Mini.{Mini, IsSound}
 use Rattle.mn_page.specs.Forest.{heads_in}
 use Rattle.mn_law.specs.Planned.{IsPlanned}
-use Rattle.mn_plans.specs.Plans.{put_in_place}
-use Rattle.mn_plans.proofs.PutInPlace.{put_is_planned}
+use Rattle.mn_plans.specs.Plans.{split_items}
+use Rattle.mn_plans.proofs.SplitRoot.{split_is_planned}
 use Rattle.mn_mini.specs.Flat.{bytes_in}
 use Rattle.mn_page.specs.declared.page.Page.{Page}
 use Rattle.mn_page.specs.declared.page.Body.TheVariants.{Leaf, Inner}
@@ -22,23 +22,38 @@ use Rattle.mn_page.proofs.Examples.Spelling.{at}
 use Rattle.mn_runs.specs.declared.entry.Entry.{Entry}
 use Rattle.mn_runs.specs.declared.entry.What.TheVariants as Did
 use Rattle.byteorder.specs.Endian.{big_bytes}
-use Rattle.mn_base.specs.declared.ids.NodeNo.{NodeNo}
+use Rattle.mn_base.specs.declared.reply.Pair.{Pair}
 use Rattle.mn_law.specs.Places.{page_place, entry_place, catalog_node, catalog_place}
 use Rattle.mn_runs.specs.Seen.{Seen}
 use Rattle.mn_law.specs.Shown.{SeesCatalog, shown_in, FirstGives}
 use Rattle.mn_run_examples.proofs.TwoNodes.{node, id, prepare}
-use Rattle.mn_run_examples.proofs.Entries.{begin, own, called, read, seen, catalog_of, version, key, pair}
+use Rattle.mn_run_examples.proofs.Entries.{begin, own, called, read, seen, catalog_of, version, key, pair, page_tells_no_entry}
 use Rattle.mn_run_examples.proofs.Scans.{entries, entry_rules, m2}
 
 -- What a try reads
 
--- the root of m2, on node 1, is a leaf
-abbrev pub leaf : Page
-leaf = record { seq = 3; made = version 1; copied = 0; low = []; high = None; body = Leaf (pair 3 ∷ pair 7 ∷ []) }
+-- the root of m2, on node 1, is a leaf with eight pairs, and k7 would be the ninth
+abbrev eight_pairs : List Pair
+eight_pairs = pair 1 ∷ pair 2 ∷ pair 3 ∷ pair 4 ∷ pair 5 ∷ pair 6 ∷ pair 8 ∷ pair 9 ∷ []
 
--- the same with another value of k7, and the next number
-abbrev pub next_leaf : Page
-next_leaf = record { seq = 4; made = version 1; copied = 0; low = []; high = None; body = Leaf (pair 3 ∷ record { key = key 7; value = 119 ∷ [] } ∷ []) }
+abbrev pub leaf : Page
+leaf = record { seq = 3; made = version 1; copied = 0; low = []; high = None; body = Leaf eight_pairs }
+
+-- its halves with k7, in two new slots of node 0, and the root over them with the next number
+abbrev first_pairs : List Pair
+first_pairs = pair 1 ∷ pair 2 ∷ pair 3 ∷ pair 4 ∷ []
+
+abbrev last_pairs : List Pair
+last_pairs = pair 6 ∷ record { key = key 7; value = 119 ∷ [] } ∷ pair 8 ∷ pair 9 ∷ []
+
+abbrev left : Page
+left = record { seq = 1; made = version 1; copied = 0; low = []; high = Some (key 5); body = Leaf first_pairs }
+
+abbrev right : Page
+right = record { seq = 1; made = version 1; copied = 0; low = key 5; high = None; body = Leaf (pair 5 ∷ last_pairs) }
+
+abbrev parent : Page
+parent = record { seq = 4; made = version 1; copied = 0; low = []; high = None; body = Inner 1 (at 0 2) (record { separator = key 5; addr = at 0 3 } ∷ []) }
 
 -- the root once it was split, whose second child is still main's
 abbrev pub inner : Page
@@ -58,7 +73,32 @@ leaf_is_page = record {
   low = (lit≤ tt, refl);
   high = tt;
   fences = refl;
-  body = (lit≤ tt, refl, (((lit≤ tt, lit≤ tt, refl), (lit≤ tt, refl), refl), (((lit≤ tt, lit≤ tt, refl), (lit≤ tt, refl), refl), tt)));
+  body = (
+    lit≤ tt,
+    refl,
+    (
+      ((lit≤ tt, lit≤ tt, refl), (lit≤ tt, refl), refl),
+      (
+        ((lit≤ tt, lit≤ tt, refl), (lit≤ tt, refl), refl),
+        (
+          ((lit≤ tt, lit≤ tt, refl), (lit≤ tt, refl), refl),
+          (
+            ((lit≤ tt, lit≤ tt, refl), (lit≤ tt, refl), refl),
+            (
+              ((lit≤ tt, lit≤ tt, refl), (lit≤ tt, refl), refl),
+              (
+                ((lit≤ tt, lit≤ tt, refl), (lit≤ tt, refl), refl),
+                (
+                  ((lit≤ tt, lit≤ tt, refl), (lit≤ tt, refl), refl),
+                  (((lit≤ tt, lit≤ tt, refl), (lit≤ tt, refl), refl), tt),
+                ),
+              ),
+            ),
+          ),
+        ),
+      ),
+    ),
+  );
 }
 
 inner_is_page : IsPage inner
@@ -93,8 +133,14 @@ catalog_bytes = catalog_of entries
 pub leaf_bytes : List ℕ
 leaf_bytes = page_bytes leaf
 
-pub next_bytes : List ℕ
-next_bytes = page_bytes next_leaf
+pub left_bytes : List ℕ
+left_bytes = page_bytes left
+
+pub right_bytes : List ℕ
+right_bytes = page_bytes right
+
+pub parent_bytes : List ℕ
+parent_bytes = page_bytes parent
 
 pub inner_bytes : List ℕ
 inner_bytes = page_bytes inner
@@ -152,30 +198,33 @@ entry_shown = refl
 abbrev pub put : Op
 put = Tx m2.name (Put (key 7) (119 ∷ []) ∷ [])
 
+-- both nodes have a part: the leaf stands on node 1, the new slots, and with them the entry that is
+-- compared, on node 0
 abbrev pub plan : Mini
-plan = record { nodes = 2; items = Compare (node 1) 21504 (big_bytes 8 3) ∷ Compare (node 0) 128 (big_bytes 8 m2.seq) ∷ Write (node 1) 21504 next_bytes ∷ [] }
+plan = record {
+  nodes = 2;
+  items = Compare (node 1) 21504 (big_bytes 8 3) ∷ Compare (node 0) 128 (big_bytes 8 m2.seq) ∷ Compare (node 0) 16 (big_bytes 8 2)
+      ∷ Write (node 1) 21504 parent_bytes ∷ Write (node 0) 22528 left_bytes ∷ Write (node 0) 23552 right_bytes ∷ Write (node 0) 16 (big_bytes 8 4) ∷ [];
+}
 
-plan_is : plan ≡ put_in_place 2 (key 7) (119 ∷ []) 1 m2 (at 1 1) leaf (pair 3 ∷ pair 7 ∷ [])
-unfolding next_bytes
+plan_is : plan ≡ record { nodes = 2; items = split_items 1 m2 leaf (node 0) 2 first_pairs (pair 5) last_pairs }
+unfolding parent_bytes left_bytes right_bytes
 plan_is = refl
 
 -- the leaf was read, and before it the catalog
 leaf_last : (older : List Seen) → FirstGives (leaf_seen ∷ catalog_seen ∷ older) (page_place (at 1 1)) (big_bytes 8 3) (page_bytes leaf)
 unfolding leaf_bytes
-leaf_last older = inl (record { node = refl; begins = lit≤ tt; ends = lit≤ tt; part = refl }, refl)
+leaf_last older = inl (inl (record { node = refl; begins = lit≤ tt; ends = lit≤ tt; part = refl }), refl)
 
 entry_last : (older : List Seen) → FirstGives (leaf_seen ∷ catalog_seen ∷ older) (entry_place catalog_node 1) (big_bytes 8 m2.seq) (entry_bytes m2)
-entry_last older = inr ((λ other gives. on_one (ap (λ (n : NodeNo). n.0) gives.0.node)), inl (record { node = refl; begins = lit≤ tt; ends = catalog_long; part = entry_shown }, refl))
+entry_last older = inr ((λ other gives. page_tells_no_entry (at 1 1) leaf_bytes catalog_node 1 other (lit< tt) gives.0), inl (inl (record { node = refl; begins = lit≤ tt; ends = catalog_long; part = entry_shown }), refl))
   where
-    on_one : ◌≡◌ {A = ℕ} 1 0 → ⊥
-    on_one e = absurd (omega arith)
-
     catalog_long : 128 + 64 ≤ 64 + length catalog_bytes
     catalog_long = let l = catalog_length_is in omega (arith, l)
 
 pub planned_after : (es : List Entry) (older : List Seen) → shown_in es ≡ leaf_seen ∷ catalog_seen ∷ older → IsPlanned es (heads_in entries) put plan (Values [])
 planned_after es older shows = subst (λ (m : Mini). IsPlanned es (heads_in entries) put m (Values [])) (sym plan_is)
-    (put_is_planned (heads_in entries) 2 m2.name (key 7) (119 ∷ []) 1 m2 (at 1 1) leaf (pair 3 ∷ pair 7 ∷ []) (record {
+    (split_is_planned (heads_in entries) 2 m2.name (key 7) (119 ∷ []) 1 m2 leaf eight_pairs (node 0) 2 first_pairs (pair 5) last_pairs (record {
       named = refl;
       few = lit< tt;
       entry = entry_rules.1.0;
@@ -183,22 +232,36 @@ planned_after es older shows = subst (λ (m : Mini). IsPlanned es (heads_in entr
       node = lit< tt;
       page = leaf_spelled.0;
       leaf = refl;
-      made = refl;
-      covers = refl;
       is_key = (lit≤ tt, lit≤ tt, refl);
       is_value = (lit≤ tt, refl);
-      room = lit≤ tt;
       number = lit< tt;
+      parts = refl;
+      few_lows = lit≤ tt;
+      few_highs = lit≤ tt;
+      free_node = lit< tt;
+      room = lit≤ tt;
     }) es
     (subst (λ (ss : List Seen). FirstGives ss (page_place (at 1 1)) (big_bytes 8 3) (page_bytes leaf)) (sym shows) (leaf_last older))
     (subst (λ (ss : List Seen). FirstGives ss (entry_place catalog_node 1) (big_bytes 8 m2.seq) (entry_bytes m2)) (sym shows) (entry_last older)))
 
 pub plan_is_sound : IsSound plan
-unfolding next_bytes
+unfolding parent_bytes left_bytes right_bytes
 plan_is_sound = record {
   some = lit≤ tt;
   few = lit≤ tt;
-  inside = (((lit< tt, lit< tt), (lit≤ tt, lit≤ tt, lit≤ tt)), (((lit< tt, lit< tt), (lit≤ tt, lit≤ tt, lit≤ tt)), (((lit< tt, lit< tt), (lit≤ tt, lit≤ tt, lit≤ tt)), tt)));
+  inside = (
+    ((lit< tt, lit< tt), (lit≤ tt, lit≤ tt, lit≤ tt)),
+    (
+      ((lit< tt, lit< tt), (lit≤ tt, lit≤ tt, lit≤ tt)),
+      (
+        ((lit< tt, lit< tt), (lit≤ tt, lit≤ tt, lit≤ tt)),
+        (
+          ((lit< tt, lit< tt), (lit≤ tt, lit≤ tt, lit≤ tt)),
+          (((lit< tt, lit< tt), (lit≤ tt, lit≤ tt, lit≤ tt)), (((lit< tt, lit< tt), (lit≤ tt, lit≤ tt, lit≤ tt)), (((lit< tt, lit< tt), (lit≤ tt, lit≤ tt, lit≤ tt)), tt))),
+        ),
+      ),
+    ),
+  );
 }
 
 -- Kinds of tries

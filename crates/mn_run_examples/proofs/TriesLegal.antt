@@ -5,28 +5,14 @@ use Rattle.mn_runs.specs.declared.entry.Entry.{Entry}
 use Rattle.mn_run_examples.proofs.Entries.{AreLegal, begin}
 use Rattle.mn_run_examples.proofs.Scans.{entries}
 use Rattle.mn_run_examples.proofs.Tries.{catalog_seen, sees_catalog, put, plan, planned_after, plan_is_sound, locked, forced, first_try, later_try}
+use Rattle.mn_run_examples.proofs.PlannedSplit.{legal_issued}
 
 abbrev first : List Entry
 first = first_try ++ begin put ∷ []
 
 legal_first : AreLegal first
 legal_first = (
-  (
-    (
-      (
-        (
-          (
-            tt,
-            record { actor = lit≤ tt; node = tt; step = ((refl, refl), tt) },
-          ),
-          record { actor = lit≤ tt; node = tt; step = (record { under_way = refl; client = refl; serial = refl; kind = refl; sound = record { some = lit≤ tt; few = lit≤ tt; inside = (((lit< tt, lit< tt), (lit≤ tt, lit≤ tt, lit≤ tt)), tt) }; after = refl }, (refl, inl refl)) },
-        ),
-        record { actor = lit≤ tt; node = tt; step = (record { mini = _; issued = refl; alone = refl; own_part = refl; once = refl; open_still = refl }, tt) },
-      ),
-      record { actor = lit≤ tt; node = tt; step = (tt, tt) },
-    ),
-    record { actor = lit≤ tt; node = tt; step = (record { under_way = refl; client = refl; serial = refl; kind = refl; sound = plan_is_sound; after = refl }, (refl, inr (Values [], (entries, (catalog_seen, (0, lit< tt, refl), sees_catalog), planned_after _ _ refl)))) },
-  ),
+  legal_issued,
   record { actor = lit≤ tt; node = tt; step = (record { mini = plan; issued = refl; all = refl; several = lit≤ tt; named = (0, lit< tt, refl); own_part = refl; once = refl; open_still = refl; lower = (λ h. absurd (omega arith), (λ h. absurd (omega arith), tt)) }, tt) },
 )
 

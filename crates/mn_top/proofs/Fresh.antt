@@ -73,9 +73,9 @@ space_is records none n low =
     (no_record records none n)
     ∙ base_there (start_of records) n low
 
-memory_is : (records : List (List Record)) → have_none records ≡ true → 0 < length records → opened_memory (start_of records) ≡ base_memory (length records)
-memory_is records none some =
-    all_same _ (base_of (length records)) 0 (length records) (λ m low. space_is records none m (omega (arith, low))) ∙ spaces_are (length records) some
+memory_is : (records : List (List Record)) → have_none records ≡ true → opened_memory (start_of records) ≡ base_memory (length records)
+memory_is records none =
+    all_same _ (base_of (length records)) 0 (length records) (λ m low. space_is records none m (omega (arith, low))) ∙ spaces_are (length records)
 
 -- The store
 
@@ -83,5 +83,5 @@ pub fresh_opens : (records : List (List Record)) → have_none records ≡ true 
 fresh_opens records none some few = record {
   sound = are_sound (length records) (start_records (start_of records)) (no_record records none);
   greater = are_greater (length records) (base_at (start_of records)) (start_records (start_of records)) (no_record records none);
-  holds = subst (λ (m : List (List ℕ)). Holds m empty_store) (sym (memory_is records none some)) (base_holds (length records) some few);
+  holds = subst (λ (m : List (List ℕ)). Holds m empty_store) (sym (memory_is records none)) (base_holds (length records) some few);
 }

@@ -1,5 +1,5 @@
 -- The spaces of a memory that records make have their full length.
-use Rattle.std.proofs.Common.{◌≡◌, ◌<◌, ◌≤◌, ◌+◌, ◌++◌, ◌∙◌, ℕ, zero, suc, List, [], ◌∷◌, Bool, true, false, length, map, refl, ap, sym, arith, length-append, if◌then◌else◌}
+use Rattle.std.proofs.Common.{◌≡◌, ◌<◌, ◌≤◌, ◌+◌, ◌++◌, ◌∙◌, ℕ, zero, suc, List, [], ◌∷◌, Bool, true, false, length, map, refl, ap, arith, length-append, if◌then◌else◌}
 use Rattle.std.specs.List.{AllByRecursion, range_with_len}
 use Rattle.std.proofs.lemmas.List.{length-map}
 use Rattle.mn_base.specs.Ids.{node_numbers}
@@ -14,9 +14,7 @@ use Rattle.mn_mini.specs.Node.{HeldPart, held_parts, space_of, with_held}
 use Rattle.mn_mini.proofs.Bytes.{length-overwritten}
 use Rattle.mn_mini.proofs.Fits.{length-space_of}
 use Rattle.mn_page.specs.Base.{base_catalog, base_count, base_front, base_of, base_slots}
-use Rattle.mn_page.specs.Grammar.{padded}
 use Rattle.mn_page.specs.Space.{space_length}
-use Rattle.mn_page.proofs.BaseSpace.{base_is}
 use Rattle.mn_page.proofs.Spelled.{length-padded}
 use Rattle.mn_runs.specs.Sound.{is_committed, opened_memory}
 use Rattle.mn_runs.specs.Protocol.{Start, base_at, start_nodes, start_of, start_records}
@@ -25,26 +23,20 @@ use Rattle.mn_plans.proofs.Spaces.{front_length}
 
 -- Base spaces
 
-catalog_fits : (node : ℕ) → length (base_catalog node) ≤ 4096
-catalog_fits zero = omega arith
-catalog_fits (suc n) = omega arith
-
 slots_fit : (node : ℕ) → length (base_slots node) ≤ 1024
 slots_fit zero = omega arith
 slots_fit (suc n) = omega arith
 
 front_is : (nodes node : ℕ) → length (base_front nodes node) ≡ 20480
 unfolding base_front
-front_is nodes node = front_length nodes node (base_count node) (base_catalog node) (catalog_fits node)
+front_is nodes node = front_length nodes node (base_count node) base_catalog (omega arith)
 
 fits : (front slots : List ℕ) → length front ≡ 20480 → length slots ≤ 1024 → length (front ++ slots) ≤ space_length
 fits front slots is few = omega (arith, length-append front slots, is, few)
 
-base_whole : (nodes node : ℕ) → 0 < nodes → length (base_of nodes node) ≡ space_length
-base_whole nodes node some =
-    let whole : List ℕ = base_front nodes node ++ base_slots node in
-    ap (λ (l : List ℕ). length l) (sym (base_is nodes node (base_front nodes node) (base_slots node) whole (padded space_length whole) some refl refl refl refl))
-    ∙ length-padded space_length whole (fits (base_front nodes node) (base_slots node) (front_is nodes node) (slots_fit node))
+base_whole : (nodes node : ℕ) → length (base_of nodes node) ≡ space_length
+unfolding base_of
+base_whole nodes node = length-padded space_length (base_front nodes node ++ base_slots node) (fits (base_front nodes node) (base_slots node) (front_is nodes node) (slots_fit node))
 
 -- Parts
 
@@ -72,7 +64,7 @@ space_whole : (start : Start) (n : NodeNo) → n.0 < start_nodes start
     → length (with_held (is_committed (start_nodes start) (start_records start)) (space_of (base_at start n) (start_records start n)) (held_parts (start_records start n))) ≡ space_length
 space_whole start n low =
     length-held (is_committed (start_nodes start) (start_records start)) (space_of (base_at start n) (start_records start n)) (held_parts (start_records start n))
-    ∙ length-space_of (base_at start n) (start_records start n) ∙ ap (λ (l : List ℕ). length l) (base_there start n low) ∙ base_whole (start_nodes start) n.0 (omega arith)
+    ∙ length-space_of (base_at start n) (start_records start n) ∙ ap (λ (l : List ℕ). length l) (base_there start n low) ∙ base_whole (start_nodes start) n.0
 
 pub memory_whole : (records : List (List Record)) → AllByRecursion (λ space. length space ≡ space_size) (opened_memory (start_of records))
 memory_whole records = all_numbers (λ space. length space ≡ space_size) _ 0 (length records) (λ m low. space_whole (start_of records) m (omega (arith, low)))

@@ -328,6 +328,27 @@ fn a_split_root_keeps_its_slot(rt: HostRuntime) -> Result<(), Fail> {
     Ok(())
 }
 
+/// How many records a log of two nodes has, whose bytes these are; none if they are no log.
+fn records_in(alloc: Global, content: &[u8], node: u8) -> Result<Option<u32>, Fail> {
+    match Redo::open(alloc, disk_of(alloc, content, &[])?, NodeNo(node), 2) {
+        Ok(log) => Ok(Some(log.count())),
+        Err(_failed) => Ok(None),
+    }
+}
+
+/// Nine puts that split the root, and one into the left leaf, which stands on node 1.
+const PUT_ON_NODE_1: &str =
+    "nodes 2\nclient s\nput main k1 v\nput main k2 v\nput main k3 v\nput main k4 v\nput main k5 v\nput main k6 v\nput main k7 v\nput main k8 v\nput main k9 v\nput main k1 w\n";
+
+/// The last put takes no part of node 0, since each node has the entry of its version.
+#[test]
+fn a_put_is_one_record_of_the_leafs_node(rt: HostRuntime) -> Result<(), Fail> {
+    let ran = replay(&rt, PUT_ON_NODE_1, fresh_disks(rt.alloc(), 2)?)?;
+    assert!(rt; records_in(rt.alloc(), ran.content(0), 0)? == Some(10));
+    assert!(rt; records_in(rt.alloc(), ran.content(1), 1)? == Some(3));
+    Ok(())
+}
+
 /// Nine puts, two children of `main`, and a put into each.
 const TWO_CHILDREN: &str =
     "nodes 2\nclient s\nput main k1 v\nput main k2 v\nput main k3 v\nput main k4 v\nput main k5 v\nput main k6 v\nput main k7 v\nput main k8 v\nput main k9 v\nsnapshot main m2\nbranch main x\nput m2 k5 a\nput x k5 b\n";
@@ -345,10 +366,13 @@ const WRITTEN_TO_0: [&[u8]; 8] = [
     b"\0\0\0\0\0\0\0\x01\x01\0\0\x02\0\0\0\0\0\0\0\0\x02k5\0\x05\x02k5\x01b\x02k6\x01v",
 ];
 
-/// What is written to node 1 at last: the count, the left leaf of `main`, which all three share,
-/// and the copies for `m2`.
-const WRITTEN_TO_1: [&[u8]; 4] = [
+/// What is written to node 1 at last: the count, the same entries, the left leaf of `main`, which
+/// all three share, and the copies for `m2`.
+const WRITTEN_TO_1: [&[u8]; 7] = [
     b"\0\0\0\0\0\0\0\x03",
+    b"\0\0\0\0\0\0\0\x02\x02\xff\0\0\0\x04main\0",
+    b"\0\0\0\0\0\0\0\x01\x01\0\x01\0\x01\x02m2\0",
+    b"\0\0\0\0\0\0\0\x01\x01\0\0\0\x02\x01x\0",
     b"\0\0\0\0\0\0\0\x01\x01\0\0\0\0\0\0\0\0\0\0\0\0\x01\x02k5\x04\x02k1\x01v\x02k2\x01v",
     b"\0\0\0\0\0\0\0\x02\x02\0\x01\x01\0\0\0\0\0\0\0\0\0\0\x02\x01\0\0\x02k5\x01\0\x02\0",
     b"\0\0\0\0\0\0\0\x01\x01\0\0\x01\0\0\0\0\0\0\0\0\x02k5\0\x05\x02k5\x01a\x02k6\x01v",

@@ -8,51 +8,22 @@ use Rattle.std.specs.Ordering.{is_lt}
 use Rattle.std.proofs.lemmas.Bool.Decides.{nat_tests}
 use Rattle.mn_base.specs.Store.{is_change}
 use Rattle.mn_base.specs.declared.ids.Addr.{Addr}
+use Rattle.mn_base.specs.declared.ids.NodeNo.{NodeNo}
 use Rattle.mn_base.proofs.Lists.{all_append, weaker}
 use Rattle.mn_page.specs.declared.page.Page.{Page}
 use Rattle.mn_page.specs.Grammar.{entry_bytes}
 use Rattle.mn_tree.specs.Order.{placed}
 use Rattle.mn_tree.specs.Moves.{Move, came_at, leaves_at}
-use Rattle.mn_plans.specs.Growth.{giving_nodes, node_no, taken_on}
+use Rattle.mn_plans.specs.Growth.{giving_nodes, taken_on}
 use Rattle.mn_txn.specs.declared.image.Image.{Image}
 use Rattle.mn_txn.specs.declared.image.Turn.{Turn}
 use Rattle.mn_txn.specs.Order.{turn_of, turn_cmp, stands_before}
-use Rattle.mn_txn.specs.Attempt.{Attempt, AttemptsStandInOrder, page_image, came_images, count_image}
+use Rattle.mn_txn.specs.Attempt.{Attempt, least_addr, AttemptsStandInOrder, page_image, came_images, count_image}
 use Rattle.mn_txn.specs.Attempt.{done_reads, done_writes, entry_images, unmet_reads}
-use Rattle.mn_txn.proofs.ChildOrder.{stays, page_turn, entry_turn, count_turn, page_is, entry_is, late}
+use Rattle.mn_txn.proofs.Late.{stays, page_turn, entry_turn, count_turn, page_is, entry_is, late}
+use Rattle.mn_txn.proofs.Late.{HaveTurn, AreLate, late_all, late_each, up_append, pages_up}
 use Rattle.mn_txn.proofs.Fits.{all_filter}
 use Rattle.mn_txn.proofs.Turns.{IsUp}
-
--- Turns of lists
-
-abbrev HaveTurn : Turn → List Image → Type 0
-HaveTurn t xs = AllByRecursion (λ x. turn_of x ≡ t) xs
-
--- none of these stands before the image
-abbrev AreLate : List Image → Image → Type 0
-AreLate ys x = AllByRecursion (λ y. stands_before y x ≡ false) ys
-
--- those of a later turn are late
-late_all : (x : Image) (s t : Turn) (ys : List Image) → turn_of x ≡ s → HaveTurn t ys
-    → is_lt (turn_cmp t s) ≡ false → AreLate ys x
-late_all x s t [] e all off = tt
-late_all x s t (y ∷ ys) e all off = (late x y s t e all.0 off, late_all x s t ys e all.1 off)
-
--- and behind each of a list
-late_each : (P : Image → Type 0) (ys : List Image) → ((x : Image) → P x → AreLate ys x)
-    → (xs : List Image) → AllByRecursion P xs → AllByRecursion (λ x. AreLate ys x) xs
-late_each P ys each xs all = weaker P (λ x. AreLate ys x) each xs all
-
--- two lists in order, of which the second is late
-up_append : (xs ys : List Image) → IsUp xs → IsUp ys → AllByRecursion (λ x. AreLate ys x) xs
-    → IsUp (xs ++ ys)
-up_append [] ys u v late = v
-up_append (x ∷ xs) ys u v late = (all_append (λ y. stands_before y x ≡ false) xs ys u.0 late.0, up_append xs ys u.1 v late.1)
-
--- pages are in order however they stand
-pages_up : (xs : List Image) → HaveTurn page_turn xs → IsUp xs
-pages_up [] all = tt
-pages_up (x ∷ xs) all = (late_all x page_turn page_turn xs all.0 all.1 refl, pages_up xs all.1)
 
 -- Pages
 
@@ -130,19 +101,19 @@ module _ (c : ℕ → ℕ) where
 
 -- A try
 
-module _ (a : Attempt) (few : a.version.0 < 64) where
+module _ (a : Attempt) (few : a.version.0 < 64) (node : NodeNo) where
   abbrev entry_image_of : Image
-  entry_image_of = record { node = node_no 0; start = 64 + 64 * a.version.0; bytes = entry_bytes a.entry }
+  entry_image_of = record { node = node; start = 64 + 64 * a.version.0; bytes = entry_bytes a.entry }
 
-  entry_turns : HaveTurn (entry_turn a.version.0) (entry_images a)
+  entry_turns : HaveTurn (entry_turn node.0 a.version.0) (entry_images node a)
   entry_turns = by_any (list_any is_change a.steps)
     where
       by_any : (t : Bool)
-          → HaveTurn (entry_turn a.version.0) (if t then entry_image_of ∷ [] else [])
-      by_any true = (entry_is a.version entry_image_of refl refl few, tt)
+          → HaveTurn (entry_turn node.0 a.version.0) (if t then entry_image_of ∷ [] else [])
+      by_any true = (entry_is a.version.0 entry_image_of refl few, tt)
       by_any false = tt
 
-  entry_up : IsUp (entry_images a)
+  entry_up : IsUp (entry_images node a)
   entry_up = by_any (list_any is_change a.steps)
     where
       by_any : (t : Bool) → IsUp (if t then entry_image_of ∷ [] else [])
@@ -153,38 +124,38 @@ module _ (a : Attempt) (few : a.version.0 < 64) where
   giving = giving_nodes a.counts a.slots
 
   module _ (xs : List Image) (pages : HaveTurn page_turn xs) (c : ℕ → ℕ) where
-    entry_late : AllByRecursion (λ x. AreLate (entry_images a) x) xs
-    entry_late = late_each (λ x. turn_of x ≡ page_turn) (entry_images a) (λ x e. late_all x page_turn (entry_turn a.version.0) (entry_images a) e entry_turns refl) xs pages
+    entry_late : AllByRecursion (λ x. AreLate (entry_images node a) x) xs
+    entry_late = late_each (λ x. turn_of x ≡ page_turn) (entry_images node a) (λ x e. late_all x page_turn (entry_turn node.0 a.version.0) (entry_images node a) e entry_turns refl) xs pages
 
     counts_late_pages : AllByRecursion (λ x. AreLate (images c giving) x) xs
     counts_late_pages = late_each (λ x. turn_of x ≡ page_turn) (images c giving) (λ x e. counts_behind c x page_turn giving e (λ n. refl)) xs pages
 
-    counts_late_entry : AllByRecursion (λ x. AreLate (images c giving) x) (entry_images a)
+    counts_late_entry : AllByRecursion (λ x. AreLate (images c giving) x) (entry_images node a)
     counts_late_entry =
-        late_each (λ x. turn_of x ≡ entry_turn a.version.0) (images c giving) (λ x e. counts_behind c x (entry_turn a.version.0) giving e (λ n. refl)) (entry_images a) entry_turns
+        late_each (λ x. turn_of x ≡ entry_turn node.0 a.version.0) (images c giving) (λ x e. counts_behind c x (entry_turn node.0 a.version.0) giving e (λ n. refl)) (entry_images node a) entry_turns
 
-    entry_behind : IsUp (xs ++ entry_images a)
-    entry_behind = up_append xs (entry_images a) (pages_up xs pages) entry_up entry_late
+    entry_behind : IsUp (xs ++ entry_images node a)
+    entry_behind = up_append xs (entry_images node a) (pages_up xs pages) entry_up entry_late
 
     counts_last : IsUp (xs ++ images c giving)
     counts_last = up_append xs (images c giving) (pages_up xs pages) (counts_up c giving (giving_rise a.counts a.slots)) counts_late_pages
 
-    all_behind : IsUp (xs ++ (entry_images a ++ images c giving))
+    all_behind : IsUp (xs ++ (entry_images node a ++ images c giving))
     all_behind =
-        up_append xs (entry_images a ++ images c giving) (pages_up xs pages)
-        (up_append (entry_images a) (images c giving) entry_up (counts_up c giving (giving_rise a.counts a.slots)) counts_late_entry) (both xs entry_late counts_late_pages)
+        up_append xs (entry_images node a ++ images c giving) (pages_up xs pages)
+        (up_append (entry_images node a) (images c giving) entry_up (counts_up c giving (giving_rise a.counts a.slots)) counts_late_entry) (both xs entry_late counts_late_pages)
       where
-        both : (zs : List Image) → AllByRecursion (λ x. AreLate (entry_images a) x) zs
+        both : (zs : List Image) → AllByRecursion (λ x. AreLate (entry_images node a) x) zs
             → AllByRecursion (λ x. AreLate (images c giving) x) zs
-            → AllByRecursion (λ x. AreLate (entry_images a ++ images c giving) x) zs
+            → AllByRecursion (λ x. AreLate (entry_images node a ++ images c giving) x) zs
         both [] one two = tt
-        both (z ∷ zs) one two = (all_append (λ y. stands_before y z ≡ false) (entry_images a) (images c giving) one.0 two.0, both zs one.1 two.1)
+        both (z ∷ zs) one two = (all_append (λ y. stands_before y z ≡ false) (entry_images node a) (images c giving) one.0 two.0, both zs one.1 two.1)
 
 pub attempts_stand_in_order : AttemptsStandInOrder
 attempts_stand_in_order a few = (
-  stays (done_reads a) (all_behind a few (came_images a.moves a.draft.read) (came_turns a.moves a.draft.read) (λ n. slice_index_or a.counts n 0)),
+  stays (done_reads a) (all_behind a few (least_addr (a.draft.read ++ a.slots)) (came_images a.moves a.draft.read) (came_turns a.moves a.draft.read) (λ n. slice_index_or a.counts n 0)),
   stays (done_writes a)
-      (counts_last a few (map (λ h. page_image h.0 h.1) (placed a.slots a.draft)) (held_turns (placed a.slots a.draft)) (λ n. slice_index_or a.counts n 0 + taken_on a.slots n)),
+      (counts_last a few (least_addr (a.draft.read ++ a.slots)) (map (λ h. page_image h.0 h.1) (placed a.slots a.draft)) (held_turns (placed a.slots a.draft)) (λ n. slice_index_or a.counts n 0 + taken_on a.slots n)),
   stays (unmet_reads a)
-      (entry_behind a few (came_images a.moves (leaves_at a.moves a.draft.read)) (came_turns a.moves (leaves_at a.moves a.draft.read)) (λ n. 0)),
+      (entry_behind a few (least_addr (leaves_at a.moves a.draft.read)) (came_images a.moves (leaves_at a.moves a.draft.read)) (came_turns a.moves (leaves_at a.moves a.draft.read)) (λ n. 0)),
 )

@@ -1,10 +1,11 @@
 -- What the plan of a transaction is, when there is one, and why there is none.
 use Rattle.std.proofs.Common.{◌≡◌, ◌⊎◌, inl, inr, ℕ, ◌+◌, ◌*◌, ◌<◌, ◌≤◌, Bool, true, false, not}
-use Rattle.std.proofs.Common.{◌&&◌, ◌||◌, nat_eq, List, [], ◌∷◌, ◌++◌, filter, map, length, Contains, Option}
+use Rattle.std.proofs.Common.{◌||◌, nat_eq, List, [], ◌∷◌, ◌++◌, filter, map, length, Contains, Option}
 use Rattle.std.proofs.Common.{Some, None, refl, subst, sym, ap, ◌∙◌, arith, slice_index_or, if◌then◌else◌}
+use Rattle.std.specs.Prelude.{unwrap_or}
 use Rattle.std.specs.List.{AllByRecursion, list_any, range_with_len}
 use Rattle.std.specs.Option.{option_map, option_map_or, option_to_list}
-use Rattle.std.proofs.lemmas.Bool.{and_parts, ne_eqb}
+use Rattle.std.proofs.lemmas.Bool.{and_parts}
 use Rattle.std.proofs.lemmas.List.{append-nil, map-append}
 use Rattle.mn_base.specs.Ids.{addr_same}
 use Rattle.mn_base.specs.Store.{Head, is_change}
@@ -29,7 +30,7 @@ use Rattle.mn_tree.specs.MoveLaws.{AreOnce, AreReads, MovesRead}
 use Rattle.mn_tree.specs.Limits.{ArePut, MovesAreFew, MovesTouchLeaves, PlacedArePut}
 use Rattle.mn_tree.specs.Tries.{PlacedHaveRoom}
 use Rattle.mn_tree.proofs.Trees.Told.{noted_filter}
-use Rattle.mn_law.specs.Planned.{IsPlanned}
+use Rattle.mn_law.specs.Planned.{IsPlanned, least_of}
 use Rattle.mn_plans.specs.Growth.{AreDifferent, AreNextSlots, addrs_of, giving_nodes, node_no, taken_on}
 use Rattle.mn_plans.proofs.NextSlots.{slots_differ}
 use Rattle.mn_plans.proofs.Told.{all_there}
@@ -41,7 +42,7 @@ use Rattle.mn_txn.specs.declared.seen.SeenPage.{SeenPage}
 use Rattle.mn_txn.specs.State.{State, is_at, bytes_at, ImagesAreApart}
 use Rattle.mn_txn.specs.Order.{in_item_order}
 use Rattle.mn_txn.specs.Plan.{RefusesPlan, can_plan, compare_of, plan_of, write_of}
-use Rattle.mn_txn.specs.Attempt.{Attempt, AttemptsStandInOrder, DoneIsPlanned, IsAttempt, IsDone, UnmetIsPlanned}
+use Rattle.mn_txn.specs.Attempt.{Attempt, least_addr, AttemptsStandInOrder, DoneIsPlanned, IsAttempt, IsDone, UnmetIsPlanned}
 use Rattle.mn_txn.specs.Attempt.{page_image, came_images, count_image, counts_read, counts_written, entry_images}
 use Rattle.mn_txn.specs.Attempt.{done_reads, done_writes, unmet_reads}
 use Rattle.mn_txn.specs.ChildPlan.{IsPlanOf, with_images, with_writes}
@@ -49,37 +50,16 @@ use Rattle.mn_txn.specs.Seen.{seen_as, seen_at}
 use Rattle.mn_txn.specs.Tries.{DoneMayBePlanned, IsFor, IsReadSlot, IsWornPage, UnmetMayBePlanned, WornIsChanged}
 use Rattle.mn_txn.specs.AttemptPlan.{HasTried, IsPlanOfTx, MayBeDone, MayBeUnmet, MayWrite}
 use Rattle.mn_txn.specs.AttemptPlan.{done_items, unmet_items, entry_read, page_read, pages_read, placing_state}
-use Rattle.mn_txn.specs.AttemptPlan.{tried_state, with_counts, with_reads}
+use Rattle.mn_txn.specs.AttemptPlan.{least_node, tried_state, with_counts, with_reads}
 use Rattle.mn_txn.proofs.AttemptOrder.{AreRising, giving_rise}
 use Rattle.mn_txn.proofs.AttemptTxn.{images_on}
 use Rattle.mn_txn.proofs.Attempts.{held_image}
-use Rattle.mn_txn.proofs.ChildPlan.{joined_all, none_at, pages_differ, starts_differ}
+use Rattle.mn_txn.proofs.Apart.{AreOff, apart_append, apart_sorts, nodes_differ, pages_differ, starts_differ}
+use Rattle.mn_txn.proofs.ChildPlan.{joined_all, none_at}
 use Rattle.mn_txn.proofs.Done.{different, none_pass, once_apart}
-use Rattle.mn_txn.proofs.Fits.{limits, run_steps}
+use Rattle.mn_txn.proofs.Fits.{all_filter, limits, run_steps}
 use Rattle.mn_txn.proofs.Lists.{all_noted}
 use Rattle.mn_txn.proofs.Worn.{numbers, writes_are}
-
--- Images apart
-
--- none of these stands at the place of the image
-abbrev AreOff : List Image → Image → Type 0
-AreOff ys x = AllByRecursion (λ y. is_at x.node x.start y ≡ false) ys
-
-apart_append : (xs ys : List Image) → ImagesAreApart xs → ImagesAreApart ys
-    → AllByRecursion (λ x. AreOff ys x) xs → ImagesAreApart (xs ++ ys)
-apart_append [] ys u v off = v
-apart_append (x ∷ xs) ys u v off = (all_append (λ y. is_at x.node x.start y ≡ false) xs ys u.0 off.0, apart_append xs ys u.1 v off.1)
-
--- starts of two sorts
-apart_sorts : (P Q : ℕ → Type 0) → ((m n : ℕ) → P m → Q n → m ≡ n → ⊥) → (xs ys : List Image)
-    → AllByRecursion (λ x. P x.start) xs → AllByRecursion (λ y. Q y.start) ys
-    → AllByRecursion (λ x. AreOff ys x) xs
-apart_sorts P Q differ xs ys all others =
-    weaker (λ x. P x.start) (λ x. AreOff ys x)
-    (λ x p. weaker (λ y. Q y.start) (λ y. is_at x.node x.start y ≡ false) (λ y q. starts_differ x y (differ x.start y.start p q)) ys others) xs all
-
-nodes_differ : (a b : Image) → (a.node.0 ≡ b.node.0 → ⊥) → is_at a.node a.start b ≡ false
-nodes_differ a b differ = ap (λ t. t && nat_eq a.start b.start) (ne_eqb a.node.0 b.node.0 differ)
 
 -- Pages
 
@@ -261,28 +241,32 @@ module _ (moves_read : MovesRead) (kept : List Head) (nodes : ℕ) (a : Attempt)
   reads : AreReads a.moves a.draft
   reads = moves_read (parents_of kept) a.version a.entry.root a.moves a.draft is.leads
 
-  abbrev entry_image_of : Image
-  entry_image_of = record { node = node_no 0; start = 64 + 64 * a.version.0; bytes = entry_bytes a.entry }
+  abbrev entry_image_of : NodeNo → Image
+  entry_image_of node = record { node = node; start = 64 + 64 * a.version.0; bytes = entry_bytes a.entry }
 
-  entry_starts : AllByRecursion (λ i. (64 ≤ i.start) × (i.start < 20480)) (entry_images a)
-  entry_starts = by_any (list_any is_change a.steps)
+  entry_starts : (node : NodeNo) → AllByRecursion (λ i. (64 ≤ i.start) × (i.start < 20480)) (entry_images node a)
+  entry_starts node = by_any (list_any is_change a.steps)
     where
-      by_any : (t : Bool) → AllByRecursion (λ i. (64 ≤ i.start) × (i.start < 20480)) (if t then entry_image_of ∷ [] else [])
+      by_any : (t : Bool) → AllByRecursion (λ i. (64 ≤ i.start) × (i.start < 20480)) (if t then entry_image_of node ∷ [] else [])
       by_any true = let few = is.few in ((omega arith, omega arith), tt)
       by_any false = tt
 
-  entry_apart : ImagesAreApart (entry_images a)
-  entry_apart = by_any (list_any is_change a.steps)
+  entry_apart : (node : NodeNo) → ImagesAreApart (entry_images node a)
+  entry_apart node = by_any (list_any is_change a.steps)
     where
-      by_any : (t : Bool) → ImagesAreApart (if t then entry_image_of ∷ [] else [])
+      by_any : (t : Bool) → ImagesAreApart (if t then entry_image_of node ∷ [] else [])
       by_any true = (tt, tt)
       by_any false = tt
 
-  entry_low : AllByRecursion (λ i. i.start < 20480) (entry_images a)
-  entry_low = weaker (λ i. (64 ≤ i.start) × (i.start < 20480)) (λ i. i.start < 20480) (λ i both. both.1) (entry_images a) entry_starts
+  entry_low : (node : NodeNo) → AllByRecursion (λ i. i.start < 20480) (entry_images node a)
+  entry_low node = weaker (λ i. (64 ≤ i.start) × (i.start < 20480)) (λ i. i.start < 20480) (λ i both. both.1) (entry_images node a) (entry_starts node)
 
-  entry_high : AllByRecursion (λ i. 64 ≤ i.start) (entry_images a)
-  entry_high = weaker (λ i. (64 ≤ i.start) × (i.start < 20480)) (λ i. 64 ≤ i.start) (λ i both. both.0) (entry_images a) entry_starts
+  entry_high : (node : NodeNo) → AllByRecursion (λ i. 64 ≤ i.start) (entry_images node a)
+  entry_high node = weaker (λ i. (64 ≤ i.start) × (i.start < 20480)) (λ i. 64 ≤ i.start) (λ i both. both.0) (entry_images node a) (entry_starts node)
+
+  -- the node of the entry
+  abbrev entry_on : NodeNo
+  entry_on = least_addr (a.draft.read ++ a.slots)
 
   abbrev giving : List ℕ
   giving = giving_nodes a.counts a.slots
@@ -296,24 +280,25 @@ module _ (moves_read : MovesRead) (kept : List Head) (nodes : ℕ) (a : Attempt)
   low_images : (c : ℕ → ℕ) → AllByRecursion (λ i. i.start < 20480) (images c giving)
   low_images c = weaker (λ i. i.start < 64) (λ i. i.start < 20480) (λ i low. omega arith) (images c giving) (counts_low c giving)
 
-  rest_low : AllByRecursion (λ i. i.start < 20480) (entry_images a ++ counts_read a)
-  rest_low = all_append (λ i. i.start < 20480) (entry_images a) (counts_read a) entry_low (low_images was)
+  rest_low : AllByRecursion (λ i. i.start < 20480) (entry_images entry_on a ++ counts_read a)
+  rest_low = all_append (λ i. i.start < 20480) (entry_images entry_on a) (counts_read a) (entry_low entry_on) (low_images was)
 
-  rest_apart : ImagesAreApart (entry_images a ++ counts_read a)
+  rest_apart : ImagesAreApart (entry_images entry_on a ++ counts_read a)
   rest_apart =
-      apart_append (entry_images a) (counts_read a) entry_apart (counts_apart was giving (giving_rise a.counts a.slots))
-      (apart_sorts (λ m. 64 ≤ m) (λ n. n < 64) (λ m n high low e. absurd (omega (arith, high, low, e))) (entry_images a) (counts_read a) entry_high (counts_low was giving))
+      apart_append (entry_images entry_on a) (counts_read a) (entry_apart entry_on) (counts_apart was giving (giving_rise a.counts a.slots))
+      (apart_sorts (λ m. 64 ≤ m) (λ n. n < 64) (λ m n high low e. absurd (omega (arith, high, low, e))) (entry_images entry_on a) (counts_read a) (entry_high entry_on) (counts_low was giving))
 
   pub reads_apart : ImagesAreApart (done_reads a)
   reads_apart =
-      apart_append (came_images a.moves a.draft.read) (entry_images a ++ counts_read a) (came_apart a.moves a.draft.read (once_different a.draft.read reads.once)) rest_apart
-      (apart_sorts (λ m. 20480 ≤ m) (λ n. n < 20480) (λ m n high low e. absurd (omega (arith, high, low, e))) (came_images a.moves a.draft.read) (entry_images a ++ counts_read a) (came_starts a.moves a.draft.read) rest_low)
+      apart_append (came_images a.moves a.draft.read) (entry_images entry_on a ++ counts_read a) (came_apart a.moves a.draft.read (once_different a.draft.read reads.once)) rest_apart
+      (apart_sorts (λ m. 20480 ≤ m) (λ n. n < 20480) (λ m n high low e. absurd (omega (arith, high, low, e))) (came_images a.moves a.draft.read) (entry_images entry_on a ++ counts_read a) (came_starts a.moves a.draft.read) rest_low)
 
   pub unmet_apart : ImagesAreApart (unmet_reads a)
   unmet_apart =
       let leaves = leaves_at a.moves a.draft.read in
-      apart_append (came_images a.moves leaves) (entry_images a) (came_apart a.moves leaves (different (is_leaf_at a.moves) a.draft.read reads.once)) entry_apart
-      (apart_sorts (λ m. 20480 ≤ m) (λ n. n < 20480) (λ m n high low e. absurd (omega (arith, high, low, e))) (came_images a.moves leaves) (entry_images a) (came_starts a.moves leaves) entry_low)
+      let node = least_addr leaves in
+      apart_append (came_images a.moves leaves) (entry_images node a) (came_apart a.moves leaves (different (is_leaf_at a.moves) a.draft.read reads.once)) (entry_apart node)
+      (apart_sorts (λ m. 20480 ≤ m) (λ n. n < 20480) (λ m n high low e. absurd (omega (arith, high, low, e))) (came_images a.moves leaves) (entry_images node a) (came_starts a.moves leaves) (entry_low node))
 
   -- no page came in at its slots
   module _ (placed_are_put : PlacedArePut) (long : length a.slots ≡ a.draft.overlay.fresh) (next : AreNextSlots a.counts a.slots) (unread : AllByRecursion (λ s. came_at a.moves s ≡ None) a.slots) where
@@ -368,17 +353,47 @@ module _ (moves_read : MovesRead) (kept : List Head) (nodes : ℕ) (a : Attempt)
     nothing_read s has =
         let none = all_there (λ x. came_at a.moves x ≡ None) a.slots s unread has in
         none_at (done_reads a) (slot_image s)
-        (all_append (λ x. is_at x.node x.start (slot_image s) ≡ false) (came_images a.moves a.draft.read) (entry_images a ++ counts_read a)
+        (all_append (λ x. is_at x.node x.start (slot_image s) ≡ false) (came_images a.moves a.draft.read) (entry_images entry_on a ++ counts_read a)
         (came_apart_from s a.draft.read (all_noted (λ b. s ≡ b → ⊥) a.draft.read (λ b noted. slot_off s b none noted)))
-        (weaker (λ x. x.start < 20480) (λ x. is_at x.node x.start (slot_image s) ≡ false) (λ x low. starts_differ x (slot_image s) (λ e. absurd (omega (arith, low, e)))) (entry_images a ++ counts_read a) rest_low))
+        (weaker (λ x. x.start < 20480) (λ x. is_at x.node x.start (slot_image s) ≡ false) (λ x low. starts_differ x (slot_image s) (λ e. absurd (omega (arith, low, e)))) (entry_images entry_on a ++ counts_read a) rest_low))
 
 -- What a try has read and is to write
 
-module _ (kept : List Head) (r : Tried) (a : Attempt) (tried : HasTried kept r a) where
-  entry_as : entry_read r.steps.now r.version r.entry ≡ entry_images a
-  entry_as =
-      ap (λ (s : List Step). entry_read s r.version r.entry) (sym tried.steps)
-      ∙ (ap (λ (v : VersionNo). entry_read a.steps v r.entry) (sym tried.version) ∙ ap (λ (e : CatEntry). entry_read a.steps a.version e) (sym tried.entry))
+-- the nodes of pages that came in
+came_nodes : (moves : List Move) (addrs : List Addr)
+    → AllByRecursion (λ x. (p : Page) × (came_at moves x ≡ Some p)) addrs
+    → map (λ i. i.node.0) (came_images moves addrs) ≡ map (λ x. x.node.0) addrs
+came_nodes moves [] all = refl
+came_nodes moves (x ∷ addrs) all =
+    ap (λ (o : Option Page). map (λ (i : Image). i.node.0) (option_to_list (option_map (page_image x) o) ++ came_images moves addrs)) (all.0).1
+    ∙ ap (λ (ns : List ℕ). x.node.0 ∷ ns) (came_nodes moves addrs all.1)
+
+-- the least of them and of slots
+came_least : (moves : List Move) (addrs slots : List Addr) → AreDifferent addrs
+    → AllByRecursion (λ x. (p : Page) × (came_at moves x ≡ Some p)) addrs
+    → least_node (with_images [] (came_images moves addrs)) slots ≡ least_addr (addrs ++ slots)
+came_least moves addrs slots differ came =
+    ap (λ (l : List Image). least_node l slots) (joined_all [] (came_images moves addrs) (came_apart moves addrs differ))
+    ∙ ap (λ (ns : List ℕ). node_no (unwrap_or (least_of ns) 0))
+    (ap (λ (ns : List ℕ). ns ++ map (λ (x : Addr). x.node.0) slots) (came_nodes moves addrs came) ∙ sym (map-append (λ (x : Addr). x.node.0) addrs slots))
+
+module _ (moves_read : MovesRead) (kept : List Head) (r : Tried) (a : Attempt) (tried : HasTried kept r a) where
+  reads_of : AreReads a.moves a.draft
+  reads_of = moves_read (parents_of kept) a.version a.entry.root a.moves a.draft tried.is.leads
+
+  abbrev leaves : List Addr
+  leaves = leaves_at a.moves a.draft.read
+
+  came_read_set : AllByRecursion (λ x. (p : Page) × (came_at a.moves x ≡ Some p)) a.draft.read
+  came_read_set = all_noted (λ x. (p : Page) × (came_at a.moves x ≡ Some p)) a.draft.read (λ x noted. let c = reads_of.came x noted in (c.0, c.1))
+
+  came_leaves : AllByRecursion (λ x. (p : Page) × (came_at a.moves x ≡ Some p)) leaves
+  came_leaves = all_filter (λ x. (p : Page) × (came_at a.moves x ≡ Some p)) (is_leaf_at a.moves) a.draft.read came_read_set
+
+  entry_as : (node : NodeNo) → entry_read node r.steps.now r.version r.entry ≡ entry_images node a
+  entry_as node =
+      ap (λ (s : List Step). entry_read node s r.version r.entry) (sym tried.steps)
+      ∙ (ap (λ (v : VersionNo). entry_read node a.steps v r.entry) (sym tried.version) ∙ ap (λ (e : CatEntry). entry_read node a.steps a.version e) (sym tried.entry))
 
   pages_as : (leaves : Bool) → pages_read leaves r.pages.now r.read_set.now
       ≡ pages_read leaves (map seen_as (comes_in a.moves)) a.draft.read
@@ -390,15 +405,22 @@ module _ (kept : List Head) (r : Tried) (a : Attempt) (tried : HasTried kept r a
   abbrev begun : List Image → List Image → State
   begun pages entry = record { nodes = r.nodes; dirty = []; reads = with_images (with_images [] pages) entry; writes = [] }
 
-  all_tried : tried_state false r ≡ begun (came_images a.moves a.draft.read) (entry_images a)
-  all_tried =
-      ap (λ (l : List Image). begun l (entry_read r.steps.now r.version r.entry)) (pages_as false ∙ all_came a.moves a.draft.read)
-      ∙ ap (λ (l : List Image). begun (came_images a.moves a.draft.read) l) entry_as
+  -- with the entry on this node
+  abbrev asked : List Image → NodeNo → State
+  asked pages node = begun pages (entry_read node r.steps.now r.version r.entry)
 
-  leaves_tried : tried_state true r ≡ begun (came_images a.moves (leaves_at a.moves a.draft.read)) (entry_images a)
+  all_tried : tried_state false r a.slots
+      ≡ begun (came_images a.moves a.draft.read) (entry_images (least_addr (a.draft.read ++ a.slots)) a)
+  all_tried =
+      ap (λ (l : List Image). asked l (least_node (with_images [] l) a.slots)) (pages_as false ∙ all_came a.moves a.draft.read)
+      ∙ (ap (asked (came_images a.moves a.draft.read)) (came_least a.moves a.draft.read a.slots (once_different a.draft.read reads_of.once) came_read_set)
+      ∙ ap (λ (l : List Image). begun (came_images a.moves a.draft.read) l) (entry_as (least_addr (a.draft.read ++ a.slots))))
+
+  leaves_tried : tried_state true r [] ≡ begun (came_images a.moves leaves) (entry_images (least_addr leaves) a)
   leaves_tried =
-      ap (λ (l : List Image). begun l (entry_read r.steps.now r.version r.entry)) (pages_as true ∙ leaves_came a.moves a.draft.read)
-      ∙ ap (λ (l : List Image). begun (came_images a.moves (leaves_at a.moves a.draft.read)) l) entry_as
+      ap (λ (l : List Image). asked l (least_node (with_images [] l) [])) (pages_as true ∙ leaves_came a.moves a.draft.read)
+      ∙ (ap (asked (came_images a.moves leaves)) (came_least a.moves leaves [] (different (is_leaf_at a.moves) a.draft.read reads_of.once) came_leaves ∙ ap least_addr (append-nil leaves))
+      ∙ ap (λ (l : List Image). begun (came_images a.moves leaves) l) (entry_as (least_addr leaves)))
 
 -- Where a Check is unmet
 
@@ -409,22 +431,25 @@ module _ (kept : List Head) (r : Tried) (a : Attempt) (may : MayBeUnmet kept r a
   leaves_order : in_item_order (unmet_reads a) ≡ unmet_reads a
   leaves_order = (stand a may.tried.is.few).2
 
-  pub leaves_are : tried_state true r ≡ leaves_state
-  leaves_are =
-      leaves_tried kept r a may.tried
-      ∙ ap (λ (l : List Image). let t : State = record { nodes = r.nodes; dirty = []; reads = l; writes = [] } in t)
-      (images_on [] (came_images a.moves (leaves_at a.moves a.draft.read)) (entry_images a) ∙ joined_all [] (unmet_reads a) (unmet_apart moves_read kept r.nodes a may.tried.is))
+  abbrev leaf_node : NodeNo
+  leaf_node = least_addr (leaves_at a.moves a.draft.read)
 
-  pub unmet_fits : UnmetMayBePlanned → can_plan (tried_state true r) ≡ true
+  pub leaves_are : tried_state true r [] ≡ leaves_state
+  leaves_are =
+      leaves_tried moves_read kept r a may.tried
+      ∙ ap (λ (l : List Image). let t : State = record { nodes = r.nodes; dirty = []; reads = l; writes = [] } in t)
+      (images_on [] (came_images a.moves (leaves_at a.moves a.draft.read)) (entry_images leaf_node a) ∙ joined_all [] (unmet_reads a) (unmet_apart moves_read kept r.nodes a may.tried.is))
+
+  pub unmet_fits : UnmetMayBePlanned → can_plan (tried_state true r []) ≡ true
   unmet_fits law = ap can_plan leaves_are ∙ law kept leaves_state a may.tried.is may.tried.some may.tried.few leaves_order refl
 
-  pub unmet_planned : UnmetIsPlanned → (mini : Mini) → mini ≡ plan_of (tried_state true r)
+  pub unmet_planned : UnmetIsPlanned → (mini : Mini) → mini ≡ plan_of (tried_state true r [])
       → IsPlanOfTx kept a (unmet_reads a) mini
   unmet_planned law mini made es shown =
       subst (λ (m : Mini). IsPlanned es kept (Tx a.name a.steps) m a.reply) (sym (made ∙ ap plan_of leaves_are))
       (law kept leaves_state a may.tried.is may.unmet (unmet_apart moves_read kept r.nodes a may.tried.is) leaves_order refl es shown)
 
-  pub unmet_made : (mini : Mini) → mini ≡ plan_of (tried_state true r) → mini ≡ unmet_items r.nodes a
+  pub unmet_made : (mini : Mini) → mini ≡ plan_of (tried_state true r []) → mini ≡ unmet_items r.nodes a
   unmet_made mini made =
       made ∙ (ap plan_of leaves_are
       ∙ ap (λ (l : List Image). let m : Mini = record { nodes = r.nodes; items = map compare_of l ++ [] } in m) leaves_order
@@ -448,6 +473,10 @@ module _ (kept : List Head) (r : Tried) (p : Placing) (a : Attempt) (may : MayBe
   apart_writes : ImagesAreApart (done_writes a)
   apart_writes = writes_apart moves_read kept r.nodes a is placed_are_put may.long may.next unread
 
+  -- the node of the entry
+  abbrev node : NodeNo
+  node = least_addr (a.draft.read ++ a.slots)
+
   abbrev done_state : State
   done_state = record { nodes = r.nodes; dirty = []; reads = done_reads a; writes = done_writes a }
 
@@ -467,11 +496,11 @@ module _ (kept : List Head) (r : Tried) (p : Placing) (a : Attempt) (may : MayBe
           ∙ sym (ap (λ (s : List Addr). giving_images image a.counts s) no_slots
           ∙ ap (λ (ns : List ℕ). map (image a.counts []) ns) (none_pass (λ n. false) (λ n. refl) (range_with_len 0 (length a.counts))))
 
-  pub done_are : placing_state (tried_state false r) p ≡ done_state
+  pub done_are : placing_state (tried_state false r p.slots.now) p ≡ done_state
   done_are =
-      counts_done p.counts.now p.slots.now (with_writes (tried_state false r) (map (λ h. page_image h.0 h.1) p.pages.now)) (range_with_len 0 (length p.counts.now))
-      ∙ (ap (λ (t : State). with_writes (with_reads (with_writes t (map (λ h. page_image h.0 h.1) p.pages.now)) olds) news) (all_tried kept r a may.tried)
-      ∙ (ap (λ (l : List Image). whole (with_images (with_images (with_images [] came) (entry_images a)) l) (with_images (with_images [] (map (λ h. page_image h.0 h.1) p.pages.now)) news))
+      counts_done p.counts.now p.slots.now (with_writes (tried_state false r p.slots.now) (map (λ h. page_image h.0 h.1) p.pages.now)) (range_with_len 0 (length p.counts.now))
+      ∙ (ap (λ (t : State). with_writes (with_reads (with_writes t (map (λ h. page_image h.0 h.1) p.pages.now)) olds) news) (ap (tried_state false r) may.slots ∙ all_tried moves_read kept r a may.tried)
+      ∙ (ap (λ (l : List Image). whole (with_images (with_images (with_images [] came) (entry_images node a)) l) (with_images (with_images [] (map (λ h. page_image h.0 h.1) p.pages.now)) news))
       (given_as (λ counts slots n. count_image n (slice_index_or counts n 0)))
       ∙ (ap (λ (l : List Image). whole all_read (with_images (with_images [] (map (λ h. page_image h.0 h.1) p.pages.now)) l))
       (given_as (λ counts slots n. count_image n (slice_index_or counts n 0 + taken_on slots n)))
@@ -491,15 +520,15 @@ module _ (kept : List Head) (r : Tried) (p : Placing) (a : Attempt) (may : MayBe
       whole rs ws = record { nodes = r.nodes; dirty = []; reads = rs; writes = ws }
 
       all_read : List Image
-      all_read = with_images (with_images (with_images [] came) (entry_images a)) (counts_read a)
+      all_read = with_images (with_images (with_images [] came) (entry_images node a)) (counts_read a)
 
       all_written : List Image
       all_written = with_images (with_images [] (map (λ h. page_image h.0 h.1) (placed a.slots a.draft))) (counts_written a)
 
       reads_on : all_read ≡ done_reads a
       reads_on =
-          images_on (with_images [] came) (entry_images a) (counts_read a)
-          ∙ (images_on [] came (entry_images a ++ counts_read a) ∙ joined_all [] (done_reads a) apart_reads)
+          images_on (with_images [] came) (entry_images node a) (counts_read a)
+          ∙ (images_on [] came (entry_images node a ++ counts_read a) ∙ joined_all [] (done_reads a) apart_reads)
 
       writes_on : all_written ≡ done_writes a
       writes_on = images_on [] (map (λ h. page_image h.0 h.1) (placed a.slots a.draft)) (counts_written a) ∙ joined_all [] (done_writes a) apart_writes
@@ -513,7 +542,7 @@ module _ (kept : List Head) (r : Tried) (p : Placing) (a : Attempt) (may : MayBe
   for : IsFor done_state a
   for = record { apart = apart_reads; reads = reads_order; writes = writes_order }
 
-  pub done_fits : DoneMayBePlanned → can_plan (placing_state (tried_state false r) p) ≡ true
+  pub done_fits : DoneMayBePlanned → can_plan (placing_state (tried_state false r p.slots.now) p) ≡ true
   done_fits law = ap can_plan done_are ∙ law kept done_state a is may.tried.some may.tried.few may.counted may.next may.long for
 
   -- what is written fits
@@ -535,11 +564,11 @@ module _ (kept : List Head) (r : Tried) (p : Placing) (a : Attempt) (may : MayBe
       by_counts P all none (inl same) = subst P (sym same) all
       by_counts P all none (inr (empty, no_slots)) = subst P (sym empty) none
 
-  its_plan : (mini : Mini) → IsPlanOf (placing_state (tried_state false r) p) mini → IsPlanOf done_state mini
+  its_plan : (mini : Mini) → IsPlanOf (placing_state (tried_state false r p.slots.now) p) mini → IsPlanOf done_state mini
   its_plan mini q = subst (λ (t : State). IsPlanOf t mini) done_are q
 
   pub done_planned : DoneIsPlanned → (mini : Mini)
-      → IsPlanOf (placing_state (tried_state false r) p) mini → IsPlanOfTx kept a (done_reads a) mini
+      → IsPlanOf (placing_state (tried_state false r p.slots.now) p) mini → IsPlanOfTx kept a (done_reads a) mini
   done_planned law mini q es shown =
       let at = its_plan mini q in
       let done : IsDone r.nodes a = record {
@@ -552,7 +581,7 @@ module _ (kept : List Head) (r : Tried) (p : Placing) (a : Attempt) (may : MayBe
       subst (λ (m : Mini). IsPlanned es kept (Tx a.name a.steps) m a.reply) (sym at.0)
       (law kept done_state a is done apart_reads apart_writes reads_order writes_order es shown)
 
-  pub done_made : (mini : Mini) → IsPlanOf (placing_state (tried_state false r) p) mini
+  pub done_made : (mini : Mini) → IsPlanOf (placing_state (tried_state false r p.slots.now) p) mini
       → mini ≡ done_items r.nodes a
   done_made mini q =
       (its_plan mini q).0
@@ -560,7 +589,7 @@ module _ (kept : List Head) (r : Tried) (p : Placing) (a : Attempt) (may : MayBe
       ∙ ap (λ (ws : List Image). let m : Mini = record { nodes = r.nodes; items = map compare_of (done_reads a) ++ map write_of ws } in m) writes_order)
 
   pub done_refused : WornIsChanged → (node : NodeNo) (start : ℕ)
-      → RefusesPlan (placing_state (tried_state false r) p) (Worn node start) → IsWornPage a node start
+      → RefusesPlan (placing_state (tried_state false r p.slots.now) p) (Worn node start) → IsWornPage a node start
   done_refused law node start q = by_place (law kept done_state a node start is may.long for (subst (λ (t : State). RefusesPlan t (Worn node start)) done_are q))
     where
       by_place : IsWornPage a node start ⊎ IsReadSlot done_state a node start → IsWornPage a node start

@@ -1,12 +1,12 @@
 -- What the plan of a Snapshot or of a Branch is, when there is one, and why there is none.
-use Rattle.std.proofs.Common.{◌≡◌, ◌⊎◌, inl, inr, ℕ, ◌+◌, ◌-◌, ◌*◌, ◌^◌, ◌<◌, ◌≤◌, Bool, true, false}
+use Rattle.std.proofs.Common.{◌≡◌, ◌⊎◌, inl, inr, ℕ, zero, suc, ◌+◌, ◌-◌, ◌*◌, ◌^◌, ◌<◌, ◌≤◌, Bool, true, false}
 use Rattle.std.proofs.Common.{◌&&◌, nat_eq, List, [], ◌∷◌, ◌++◌, map, length, drop, replicate, Option}
 use Rattle.std.proofs.Common.{Some, None, IfOk, IfErr, Result, refl, subst, sym, ap, ◌∙◌, arith}
-use Rattle.std.proofs.Common.{slice_get, get_or-set_same, if◌then◌else◌}
+use Rattle.std.proofs.Common.{length-append, slice_get, get_or-set_same, if◌then◌else◌}
 use Rattle.std.specs.Prelude.{nat_le}
-use Rattle.std.specs.List.{AllByRecursion}
+use Rattle.std.specs.List.{AllByRecursion, range_with_len}
 use Rattle.std.specs.Option.{option_map, option_to_list}
-use Rattle.std.proofs.lemmas.Bool.{and_parts, eqb-true, ne_eqb}
+use Rattle.std.proofs.lemmas.Bool.{eqb-true, ne_eqb}
 use Rattle.std.proofs.lemmas.Result.{IfOk-weaker, IfErr-weaker}
 use Rattle.std.proofs.lemmas.List.{append_assoc, append-nil, length-map, length-set, length-replicate}
 use Rattle.std.proofs.lemmas.Option.{get_or_from_slice_get, slice_get-map, slice_get_within}
@@ -28,8 +28,8 @@ use Rattle.mn_page.specs.Forest.{heads_in, entry_head}
 use Rattle.mn_page.specs.Copies.{CopiesArePages, marked_for, copy_for}
 use Rattle.mn_page.specs.Added.{frozen_entry, child_entry}
 use Rattle.mn_base.proofs.VersionTree.{child_admitted}
-use Rattle.mn_base.proofs.Booleans.{and_false}
-use Rattle.mn_page.proofs.Spelled.{page_length, entry_length, same_addr}
+use Rattle.mn_base.proofs.Lists.{all_append, weaker}
+use Rattle.mn_page.proofs.Spelled.{page_length, entry_length}
 use Rattle.mn_page.proofs.Grid.{all_split}
 use Rattle.mn_catalog.specs.Grammar.{IsCatalog}
 use Rattle.mn_catalog.specs.Versions.{Numbered, numbered, branch_entries, snapshot_entries, AreEntries}
@@ -37,8 +37,8 @@ use Rattle.mn_plans.specs.Growth.{node_no}
 use Rattle.mn_plans.proofs.Compares.{same_number}
 use Rattle.mn_txn.specs.declared.error.PlanError.{PlanError}
 use Rattle.mn_txn.specs.declared.error.PlanError.TheVariants.{Worn, NoMemory}
+use Rattle.mn_law.specs.Places.{catalog_node}
 use Rattle.mn_law.specs.Planned.{IsPlanned}
-use Rattle.mn_runs.specs.declared.entry.Entry.{Entry}
 use Rattle.mn_base.specs.declared.reply.Reply.TheVariants as says
 use Rattle.mn_txn.specs.declared.image.Image.{Image}
 use Rattle.mn_txn.specs.State.{State, is_at, joined, bytes_at, ImagesAreApart}
@@ -46,12 +46,15 @@ use Rattle.mn_txn.specs.Order.{in_item_order}
 use Rattle.mn_txn.specs.Plan.{RefusesPlan, can_plan, compare_of, first_worn, is_last, is_worn, plan_of, write_of}
 use Rattle.mn_txn.specs.Attempt.{page_image}
 use Rattle.mn_txn.specs.Children.{ChildTry, IsChildTry, entry_image, unused_image, count_read, count_written}
-use Rattle.mn_txn.specs.Children.{root_written, copy_written, child_written, child_reads, snapshot_writes, branch_writes}
+use Rattle.mn_txn.specs.Children.{root_written, copy_written, frozen_written, child_written, child_reads, child_writes, snapshot_writes, branch_writes}
 use Rattle.mn_txn.specs.Children.{SnapshotIsPlanned, BranchIsPlanned, ChildrenStandInOrder}
 use Rattle.mn_txn.specs.ChildPlan.{IsVersion, IsWornRoot, IsWornEntry, MayHaveChild, RefusesSnapshot, RefusesBranch}
 use Rattle.mn_txn.specs.ChildPlan.{SnapshotPlanned, BranchPlanned, IsSnapshotPlan, IsBranchPlan}
-use Rattle.mn_txn.specs.ChildPlan.{IsPlanOf, OfChild, IsChildPlan, MayPlanChild, RefusesChild, child_try, child_state, with_images}
+use Rattle.mn_txn.specs.ChildPlan.{read_state, with_count, with_pages, IsPlanOf, OfChild, IsChildPlan, MayPlanChild, RefusesChild, child_try, child_state, with_images}
+use Rattle.mn_txn.proofs.Apart.{apart_append, nodes_differ, pages_differ, starts_differ}
+use Rattle.mn_txn.proofs.AttemptTxn.{images_on}
 use Rattle.mn_txn.proofs.Children.{frozen_one, writable_one}
+use Rattle.mn_txn.proofs.EachNode.{AreNumbered, all_on_nodes, entries_done, few_on_nodes, nodes_apart, on_nodes, starts_on_nodes}
 use Rattle.mn_txn.proofs.Fits.{IsIn, in_space, page_in, count_in_space, test_passes}
 use Rattle.mn_txn.proofs.Images.{turned, worn_read, worn_unread}
 use Rattle.mn_txn.proofs.Worn.{at_read, last_is, no_count}
@@ -80,20 +83,6 @@ joined_all xs (i ∷ is) apart =
 
 -- Places
 
-pub starts_differ : (a b : Image) → (a.start ≡ b.start → ⊥) → is_at a.node a.start b ≡ false
-starts_differ a b differ = ap (λ t. nat_eq a.node.0 b.node.0 && t) (ne_eqb a.start b.start differ) ∙ and_false (nat_eq a.node.0 b.node.0)
-
-pub pages_differ : (a b : Addr) (q : Page) → (b ≡ a → ⊥)
-    → is_at a.node (20480 + 1024 * a.slot) (page_image b q) ≡ false
-pages_differ a b q differ = by_test (is_at a.node (20480 + 1024 * a.slot) (page_image b q)) refl
-  where
-    by_test : (t : Bool) → is_at a.node (20480 + 1024 * a.slot) (page_image b q) ≡ t → t ≡ false
-    by_test true e =
-        let both = and_parts (nat_eq a.node.0 b.node.0) (nat_eq (20480 + 1024 * a.slot) (20480 + 1024 * b.slot)) e in
-        let starts = eqb-true (20480 + 1024 * a.slot) (20480 + 1024 * b.slot) both.1 in
-        absurd (differ (sym (same_addr a b (eqb-true a.node.0 b.node.0 both.0) (omega (arith, starts)))))
-    by_test false e = refl
-
 pub none_at : (xs : List Image) (i : Image) → AllByRecursion (λ x. is_at x.node x.start i ≡ false) xs
     → bytes_at i.node i.start xs ≡ None
 none_at [] i all = refl
@@ -116,16 +105,21 @@ below_last seq high off = let differs = λ (e : seq ≡ 2 ^ 64 - 1). clash (ap (
 
 -- The first that is worn
 
-first_of_five : (t : State) (a b c d e : Image) (x y : Bool) → is_worn t a ≡ x
-    → is_worn t b ≡ false → is_worn t c ≡ y → is_worn t d ≡ false → is_worn t e ≡ false
-    → first_worn t (a ∷ b ∷ c ∷ d ∷ e ∷ [])
-    ≡ (if x then Some (a.node, a.start) else (if y then Some (c.node, c.start) else None))
-first_of_five t a b c d e x y p q r s u = rw (p, q, r, s, u) refl
+none_worn : (t : State) (xs : List Image) → AllByRecursion (λ x. is_worn t x ≡ false) xs
+    → first_worn t xs ≡ None
+none_worn t [] all = refl
+none_worn t (x ∷ xs) all = ap (λ b. if b then Some (x.node, x.start) else first_worn t xs) all.0 ∙ none_worn t xs all.1
 
-first_of_four : (t : State) (a b d e : Image) (x : Bool) → is_worn t a ≡ x → is_worn t b ≡ false
-    → is_worn t d ≡ false → is_worn t e ≡ false
-    → first_worn t (a ∷ b ∷ d ∷ e ∷ []) ≡ (if x then Some (a.node, a.start) else None)
-first_of_four t a b d e x p q s u = rw (p, q, s, u) refl
+first_of_two : (t : State) (a b c d : Image) (rest : List Image) (x y : Bool) → is_worn t a ≡ x
+    → is_worn t b ≡ false → is_worn t c ≡ y → is_worn t d ≡ false → first_worn t rest ≡ None
+    → first_worn t (a ∷ b ∷ c ∷ d ∷ rest)
+    ≡ (if x then Some (a.node, a.start) else (if y then Some (c.node, c.start) else None))
+first_of_two t a b c d rest x y p q r s u = rw (p, q, r, s, u) refl
+
+first_of_one : (t : State) (a b d : Image) (rest : List Image) (x : Bool) → is_worn t a ≡ x
+    → is_worn t b ≡ false → is_worn t d ≡ false → first_worn t rest ≡ None
+    → first_worn t (a ∷ b ∷ d ∷ rest) ≡ (if x then Some (a.node, a.start) else None)
+first_of_one t a b d rest x p q s u = rw (p, q, s, u) refl
 
 none_of_two : (x y : Bool) (p q : NodeNo × ℕ)
     → (if x then Some p else (if y then Some q else None)) ≡ None → (x ≡ false) × (y ≡ false)
@@ -171,7 +165,7 @@ module _ (used : List CatEntry) (nodes : ℕ) (name child : List ℕ) (version :
   reads_apart : ImagesAreApart (child_reads c)
   reads_apart = (
     (
-      starts_differ (page_image e.root root) (entry_image version e) (λ s. absurd (omega (arith, s, version_low, many))),
+      starts_differ (page_image e.root root) (entry_image catalog_node version e) (λ s. absurd (omega (arith, s, version_low, many))),
       (
         starts_differ (page_image e.root root) (unused_image c.number) (λ s. absurd (omega (arith, s, many))),
         (starts_differ (page_image e.root root) (count_read c) (λ s. absurd (omega (arith, s))), tt),
@@ -179,8 +173,8 @@ module _ (used : List CatEntry) (nodes : ℕ) (name child : List ℕ) (version :
     ),
     (
       (
-        starts_differ (entry_image version e) (unused_image c.number) (λ s. absurd (omega (arith, s, version_low))),
-        (starts_differ (entry_image version e) (count_read c) (λ s. absurd (omega (arith, s))), tt),
+        starts_differ (entry_image catalog_node version e) (unused_image c.number) (λ s. absurd (omega (arith, s, version_low))),
+        (starts_differ (entry_image catalog_node version e) (count_read c) (λ s. absurd (omega (arith, s))), tt),
       ),
       ((starts_differ (unused_image c.number) (count_read c) (λ s. absurd (omega (arith, s))), tt), (tt, tt)),
     ),
@@ -189,38 +183,53 @@ module _ (used : List CatEntry) (nodes : ℕ) (name child : List ℕ) (version :
   root_copy : IsOff (root_written c) (copy_written c)
   root_copy = pages_differ e.root slot (copy_for c.number root) apart
 
-  root_kid : IsOff (root_written c) (child_written c)
-  root_kid = starts_differ (root_written c) (child_written c) (λ s. absurd (omega (arith, s, many)))
-
   root_count : IsOff (root_written c) (count_written c)
   root_count = starts_differ (root_written c) (count_written c) (λ s. absurd (omega (arith, s)))
-
-  copy_kid : IsOff (copy_written c) (child_written c)
-  copy_kid = starts_differ (copy_written c) (child_written c) (λ s. absurd (omega (arith, s, many)))
 
   copy_count : IsOff (copy_written c) (count_written c)
   copy_count = starts_differ (copy_written c) (count_written c) (λ s. absurd (omega (arith, s)))
 
-  kid_count : IsOff (child_written c) (count_written c)
-  kid_count = starts_differ (child_written c) (count_written c) (λ s. absurd (omega (arith, s)))
+  -- the version's entry, now frozen, and the child's, or the child's alone
+  abbrev both : List Numbered
+  both = frozen_written c ∷ child_written c ∷ []
 
-  pub snapshot_apart : ImagesAreApart (snapshot_writes c)
-  snapshot_apart = (
-    (root_copy, (starts_differ (root_written c) (entry_image version (frozen_entry e)) (λ s. absurd (omega (arith, s, version_low, many))), (root_kid, (root_count, tt)))),
-    (
-      (starts_differ (copy_written c) (entry_image version (frozen_entry e)) (λ s. absurd (omega (arith, s, version_low, many))), (copy_kid, (copy_count, tt))),
+  abbrev one : List Numbered
+  one = child_written c ∷ []
+
+  both_numbered : AreNumbered both
+  both_numbered = (omega (arith, version_low, many), (version_low, tt), (many, tt, tt))
+
+  one_numbered : AreNumbered one
+  one_numbered = (many, tt, tt)
+
+  -- what is written with these entries
+  module _ (es : List Numbered) (numbered_so : AreNumbered es) where
+    abbrev entries : List Image
+    entries = on_nodes es 0 nodes
+
+    entries_behind : (x : Image) → 20480 ≤ x.start → IsOff x (count_written c)
+        → AllByRecursion (IsOff x) (entries ++ count_written c ∷ [])
+    entries_behind x high off =
+        all_append (IsOff x) entries (count_written c ∷ [])
+        (weaker (λ y. (64 ≤ y.start) × (y.start < 20480)) (IsOff x) (λ y at. starts_differ x y (λ s. let less = at.1 in absurd (omega (arith, s, high, less)))) entries (starts_on_nodes es 0 nodes numbered_so))
+        (off, tt)
+
+    writes_apart : ImagesAreApart (child_writes nodes c es)
+    writes_apart = (
+      (root_copy, entries_behind (root_written c) (omega arith) root_count),
       (
-        (
-          starts_differ (entry_image version (frozen_entry e)) (child_written c) (λ s. absurd (omega (arith, s, version_low))),
-          (starts_differ (entry_image version (frozen_entry e)) (count_written c) (λ s. absurd (omega (arith, s))), tt),
-        ),
-        ((kid_count, tt), (tt, tt)),
+        entries_behind (copy_written c) (omega arith) copy_count,
+        apart_append entries (count_written c ∷ []) (nodes_apart es 0 nodes numbered_so) (tt, tt)
+            (weaker (λ x. (64 ≤ x.start) × (x.start < 20480)) (λ x. AllByRecursion (IsOff x) (count_written c ∷ []))
+            (λ x at. (starts_differ x (count_written c) (λ s. let more = at.0 in absurd (omega (arith, s, more))), tt)) entries (starts_on_nodes es 0 nodes numbered_so)),
       ),
-    ),
-  )
+    )
 
-  pub branch_apart : ImagesAreApart (branch_writes c)
-  branch_apart = ((root_copy, (root_kid, (root_count, tt))), ((copy_kid, (copy_count, tt)), ((kid_count, tt), (tt, tt))))
+  pub snapshot_apart : ImagesAreApart (snapshot_writes nodes c)
+  snapshot_apart = writes_apart both both_numbered
+
+  pub branch_apart : ImagesAreApart (branch_writes nodes c)
+  branch_apart = writes_apart one one_numbered
 
   -- A try by these entries
 
@@ -262,13 +271,20 @@ module _ (used : List CatEntry) (nodes : ℕ) (name child : List ℕ) (version :
   abbrev pub of_entries : List Numbered → State
   of_entries es = child_state nodes used version e root slot es
 
-  pub snapshot_state : of_entries (snapshot_entries used version child slot) ≡ state_with (snapshot_writes c)
+  state_done : (es : List Numbered) → AreNumbered es → of_entries es ≡ state_with (child_writes nodes c es)
+  state_done es so =
+      ap (λ (t : State). with_count t slot) (entries_done (with_pages (read_state nodes version e root c.number slot) e.root root c.number slot) es (range_with_len 0 nodes))
+      ∙ (ap (λ (l : List Image). let t : State = record { nodes = nodes; dirty = []; reads = with_images [] (child_reads c); writes = l } in t)
+      (images_on (with_images [] (root_written c ∷ copy_written c ∷ [])) (on_nodes es 0 nodes) (count_written c ∷ []))
+      ∙ joined_once (child_writes nodes c es) (writes_apart es so))
+
+  pub snapshot_state : of_entries (snapshot_entries used version child slot) ≡ state_with (snapshot_writes nodes c)
   snapshot_state =
       ap (λ (o : Option CatEntry). of_entries (option_to_list (option_map (λ x. numbered version.0 (frozen_entry x)) o) ++ branch_entries used version child slot)) is.there
-      ∙ joined_once (snapshot_writes c) snapshot_apart
+      ∙ state_done both both_numbered
 
-  pub branch_state : of_entries (branch_entries used version child slot) ≡ state_with (branch_writes c)
-  branch_state = joined_once (branch_writes c) branch_apart
+  pub branch_state : of_entries (branch_entries used version child slot) ≡ state_with (branch_writes nodes c)
+  branch_state = state_done one one_numbered
 
   -- The test of a plan
 
@@ -276,17 +292,17 @@ module _ (used : List CatEntry) (nodes : ℕ) (name child : List ℕ) (version :
     root_low : e.root.slot < max_slots
     root_low = (entry.root).1
 
+    entry_in : (n : ℕ) (v : VersionNo) (x : CatEntry) → n < nodes → v.0 < 64 → IsEntry x → IsIn nodes (entry_image (node_no n) v x)
+    entry_in n v x there small it = in_space nodes (entry_image (node_no n) v x) 64 (entry_length x it) few there (omega arith) (omega arith) (omega arith)
+
     some_node : 0 < nodes
     some_node = omega (arith, within)
-
-    entry_in : (v : VersionNo) (x : CatEntry) → v.0 < 64 → IsEntry x → IsIn nodes (entry_image v x)
-    entry_in v x small it = in_space nodes (entry_image v x) 64 (entry_length x it) few some_node (omega arith) (omega arith) (omega arith)
 
     reads_in : AllByRecursion (IsIn nodes) (child_reads c)
     reads_in = (
       page_in nodes e.root root few within root_low (page_length root page),
       (
-        entry_in version e (omega (arith, version_low, many)) entry,
+        entry_in 0 version e some_node (omega (arith, version_low, many)) entry,
         (in_space nodes (unused_image c.number) 64 (length-replicate {A = ℕ} 64 0) few some_node (omega arith) (omega arith) (omega arith), (count_in_space nodes slot.node.0 slot.slot few node, tt)),
       ),
     )
@@ -300,25 +316,38 @@ module _ (used : List CatEntry) (nodes : ℕ) (name child : List ℕ) (version :
     copy_in : IsIn nodes (copy_written c)
     copy_in = page_in nodes slot (copy_for c.number root) few node low (page_length (copy_for c.number root) pages.1)
 
-    kid_in : IsEntry (child_entry version child slot) → IsIn nodes (child_written c)
-    kid_in sound = entry_in c.number (child_entry version child slot) many sound
-
     count_in : IsIn nodes (count_written c)
     count_in = count_in_space nodes slot.node.0 (slot.slot + 1) few node
+
+    -- at most two entries on at most 8 nodes are few
+    fits : (es : List Numbered) → AreNumbered es → AreEntries es → length es ≤ 2 → of_entries es ≡ state_with (child_writes nodes c es)
+        → can_plan (of_entries es) ≡ true
+    fits es so sound short done =
+        ap can_plan done
+        ∙ test_passes (state_with (child_writes nodes c es)) (omega arith) (omega (arith, e_long, e_few, few)) reads_in
+        (root_in, (copy_in, all_append (IsIn nodes) (on_nodes es 0 nodes) (count_written c ∷ []) entries_in (count_in, tt)))
+      where
+        e_long : length (on_nodes es 0 nodes ++ count_written c ∷ []) ≡ length (on_nodes es 0 nodes) + 1
+        e_long = length-append (on_nodes es 0 nodes) (count_written c ∷ [])
+
+        e_few : length (on_nodes es 0 nodes) ≤ 2 * nodes
+        e_few = few_on_nodes es 0 nodes short
+
+        entries_in : AllByRecursion (IsIn nodes) (on_nodes es 0 nodes)
+        entries_in =
+            all_on_nodes (IsIn nodes) es 0 nodes
+            (λ n from below. weaker (λ x. (x.0.0 < 64) × IsEntry x.1) (λ x. IsIn nodes (entry_image (node_no n) x.0 x.1)) (λ x right. entry_in n x.0 x.1 (omega (arith, below)) right.0 right.1) es sound)
 
     pub snapshot_fits : AreEntries (snapshot_entries used version child slot)
         → can_plan (of_entries (snapshot_entries used version child slot)) ≡ true
     snapshot_fits sound =
         let are = subst (λ (o : Option CatEntry). AreEntries (option_to_list (option_map (λ x. numbered version.0 (frozen_entry x)) o) ++ branch_entries used version child slot)) is.there sound in
-        ap can_plan snapshot_state
-        ∙ test_passes (state_with (snapshot_writes c)) (omega arith) (omega arith) reads_in
-        (root_in, (copy_in, (entry_in version (frozen_entry e) (omega (arith, version_low, many)) (are.0).1, (kid_in ((are.1).0).1, (count_in, tt)))))
+        ap (λ (o : Option CatEntry). can_plan (of_entries (option_to_list (option_map (λ x. numbered version.0 (frozen_entry x)) o) ++ branch_entries used version child slot))) is.there
+        ∙ fits both both_numbered are (omega arith) (state_done both both_numbered)
 
     pub branch_fits : AreEntries (branch_entries used version child slot)
         → can_plan (of_entries (branch_entries used version child slot)) ≡ true
-    branch_fits sound =
-        ap can_plan branch_state
-        ∙ test_passes (state_with (branch_writes c)) (omega arith) (omega arith) reads_in (root_in, (copy_in, (kid_in (sound.0).1, (count_in, tt))))
+    branch_fits sound = fits one one_numbered sound (omega arith) branch_state
 
   -- What is worn
 
@@ -337,7 +366,7 @@ module _ (used : List CatEntry) (nodes : ℕ) (name child : List ℕ) (version :
         (none_at (child_reads c) (copy_written c) (
           pages_differ e.root slot (copy_for c.number root) apart,
           (
-            starts_differ (entry_image version e) (copy_written c) (λ s. absurd (omega (arith, s, version_low, many))),
+            starts_differ (entry_image catalog_node version e) (copy_written c) (λ s. absurd (omega (arith, s, version_low, many))),
             (
               starts_differ (unused_image c.number) (copy_written c) (λ s. absurd (omega (arith, s, many))),
               (starts_differ (count_read c) (copy_written c) (λ s. absurd (omega (arith, s))), tt),
@@ -345,17 +374,49 @@ module _ (used : List CatEntry) (nodes : ℕ) (name child : List ℕ) (version :
           ),
         )) refl)
 
-    shut_worn : is_worn (state_with ws) (entry_image version (frozen_entry e)) ≡ nat_eq e.seq (2 ^ 64 - 1)
+    abbrev shut : Image
+    shut = entry_image catalog_node version (frozen_entry e)
+
+    abbrev kid_image : Image
+    kid_image = entry_image catalog_node c.number (child_entry version child slot)
+
+    shut_worn : is_worn (state_with ws) shut ≡ nat_eq e.seq (2 ^ 64 - 1)
     shut_worn =
-        sym (worn_read (state_with ws) (entry_image version (frozen_entry e)) (entry_start_off version.0) (entry_bytes e) (at_read (child_reads c) (entry_image version e) reads_apart (1, omega arith, refl)))
+        sym (worn_read (state_with ws) shut (entry_start_off version.0) (entry_bytes e) (at_read (child_reads c) (entry_image catalog_node version e) reads_apart (1, omega arith, refl)))
         ∙ entry_last e entry
 
-    kid_worn : is_worn (state_with ws) (child_written c) ≡ false
+    kid_worn : is_worn (state_with ws) kid_image ≡ false
     kid_worn =
-        sym (worn_read (state_with ws) (child_written c) (entry_start_off kid) (replicate 64 0) (at_read (child_reads c) (unused_image c.number) reads_apart (2, omega arith, refl)))
+        sym (worn_read (state_with ws) kid_image (entry_start_off kid) (replicate 64 0) (at_read (child_reads c) (unused_image c.number) reads_apart (2, omega arith, refl)))
 
     count_worn : is_worn (state_with ws) (count_written c) ≡ false
     count_worn = refl
+
+    -- an entry on another node wasn't read
+    beside_worn : (n : ℕ) (v : VersionNo) (x : CatEntry) → 1 ≤ n → v.0 < 64 → is_worn (state_with ws) (entry_image (node_no n) v x) ≡ false
+    beside_worn n v x behind small =
+        sym (worn_unread (state_with ws) i (entry_start_off v.0)
+        (none_at (child_reads c) i (
+          starts_differ (page_image e.root root) i (λ s. absurd (omega (arith, s, small))),
+          (
+            nodes_differ (entry_image catalog_node version e) i (λ same. absurd (omega (arith, same, behind))),
+            (nodes_differ (unused_image c.number) i (λ same. absurd (omega (arith, same, behind))), (starts_differ (count_read c) i (λ s. absurd (omega (arith, s))), tt)),
+          ),
+        )) refl)
+      where
+        i : Image
+        i = entry_image (node_no n) v x
+
+    -- so nothing behind the first node is worn
+    rest_worn : (es : List Numbered) (k : ℕ) → AreNumbered es → first_worn (state_with ws) (on_nodes es 1 k ++ count_written c ∷ []) ≡ None
+    rest_worn es k so =
+        none_worn (state_with ws) (on_nodes es 1 k ++ count_written c ∷ [])
+        (all_append (λ x. is_worn (state_with ws) x ≡ false) (on_nodes es 1 k) (count_written c ∷ [])
+        (all_on_nodes (λ x. is_worn (state_with ws) x ≡ false) es 1 k (λ n from below. each n from es so)) (count_worn, tt))
+      where
+        each : (n : ℕ) → 1 ≤ n → (ds : List Numbered) → AreNumbered ds → AllByRecursion (λ x. is_worn (state_with ws) (entry_image (node_no n) x.0 x.1) ≡ false) ds
+        each n from [] low_ones = tt
+        each n from (d ∷ ds) low_ones = (beside_worn n d.0 d.1 from low_ones.0, each n from ds low_ones.2)
 
   -- The plan
 
@@ -367,13 +428,13 @@ module _ (used : List CatEntry) (nodes : ℕ) (name child : List ℕ) (version :
 
   module _ (stand : ChildrenStandInOrder) where
     reads_stand : in_item_order (child_reads c) ≡ child_reads c
-    reads_stand = (stand c version_low many).0
+    reads_stand = (stand nodes c version_low many).0
 
-    snapshot_stand : in_item_order (snapshot_writes c) ≡ snapshot_writes c
-    snapshot_stand = (stand c version_low many).1
+    snapshot_stand : in_item_order (snapshot_writes nodes c) ≡ snapshot_writes nodes c
+    snapshot_stand = (stand nodes c version_low many).1
 
-    branch_stand : in_item_order (branch_writes c) ≡ branch_writes c
-    branch_stand = (stand c version_low many).2
+    branch_stand : in_item_order (branch_writes nodes c) ≡ branch_writes nodes c
+    branch_stand = (stand nodes c version_low many).2
 
     plan_with : (ws : List Image) → in_item_order ws ≡ ws
         → plan_of (state_with ws) ≡ record { nodes = nodes; items = map compare_of (child_reads c) ++ map write_of ws }
@@ -381,24 +442,39 @@ module _ (used : List CatEntry) (nodes : ℕ) (name child : List ℕ) (version :
         ap (λ (rs : List Image). let m : Mini = record { nodes = nodes; items = map compare_of rs ++ map write_of (in_item_order ws) } in m) reads_stand
         ∙ ap (λ (xs : List Image). let m : Mini = record { nodes = nodes; items = map compare_of (child_reads c) ++ map write_of xs } in m) same
 
-    snapshot_first : first_worn (state_with (snapshot_writes c)) (in_item_order (snapshot_writes c))
+    snapshot_first : first_worn (state_with (snapshot_writes nodes c)) (in_item_order (snapshot_writes nodes c))
         ≡ (if nat_eq root.seq (2 ^ 64 - 1) then Some root_at else (if nat_eq e.seq (2 ^ 64 - 1) then Some entry_at else None))
-    snapshot_first =
-        ap (first_worn (state_with (snapshot_writes c))) snapshot_stand
-        ∙ first_of_five (state_with (snapshot_writes c)) (root_written c) (copy_written c) (entry_image version (frozen_entry e)) (child_written c) (count_written c) (nat_eq root.seq (2 ^ 64 - 1)) (nat_eq e.seq (2 ^ 64 - 1))
-        (root_worn (snapshot_writes c)) (copy_worn (snapshot_writes c)) (shut_worn (snapshot_writes c)) (kid_worn (snapshot_writes c)) (count_worn (snapshot_writes c))
+    snapshot_first = ap (first_worn (state_with ws)) snapshot_stand ∙ by_nodes nodes (omega (arith, within))
+      where
+        ws : List Image
+        ws = snapshot_writes nodes c
 
-    branch_first : first_worn (state_with (branch_writes c)) (in_item_order (branch_writes c))
+        by_nodes : (k : ℕ) → 0 < k
+            → first_worn (state_with ws) (child_writes k c both)
+            ≡ (if nat_eq root.seq (2 ^ 64 - 1) then Some root_at else (if nat_eq e.seq (2 ^ 64 - 1) then Some entry_at else None))
+        by_nodes zero some = absurd (omega arith)
+        by_nodes (suc k) some =
+            first_of_two (state_with ws) (root_written c) (copy_written c) (shut ws) (kid_image ws) (on_nodes both 1 k ++ count_written c ∷ []) (nat_eq root.seq (2 ^ 64 - 1)) (nat_eq e.seq (2 ^ 64 - 1))
+            (root_worn ws) (copy_worn ws) (shut_worn ws) (kid_worn ws) (rest_worn ws both k both_numbered)
+
+    branch_first : first_worn (state_with (branch_writes nodes c)) (in_item_order (branch_writes nodes c))
         ≡ (if nat_eq root.seq (2 ^ 64 - 1) then Some root_at else None)
-    branch_first =
-        ap (first_worn (state_with (branch_writes c))) branch_stand
-        ∙ first_of_four (state_with (branch_writes c)) (root_written c) (copy_written c) (child_written c) (count_written c) (nat_eq root.seq (2 ^ 64 - 1))
-        (root_worn (branch_writes c)) (copy_worn (branch_writes c)) (kid_worn (branch_writes c)) (count_worn (branch_writes c))
+    branch_first = ap (first_worn (state_with ws)) branch_stand ∙ by_nodes nodes (omega (arith, within))
+      where
+        ws : List Image
+        ws = branch_writes nodes c
+
+        by_nodes : (k : ℕ) → 0 < k
+            → first_worn (state_with ws) (child_writes k c one) ≡ (if nat_eq root.seq (2 ^ 64 - 1) then Some root_at else None)
+        by_nodes zero some = absurd (omega arith)
+        by_nodes (suc k) some =
+            first_of_one (state_with ws) (root_written c) (copy_written c) (kid_image ws) (on_nodes one 1 k ++ count_written c ∷ []) (nat_eq root.seq (2 ^ 64 - 1))
+            (root_worn ws) (copy_worn ws) (kid_worn ws) (rest_worn ws one k one_numbered)
 
     -- A Snapshot
 
     snapshot_shown : (mini : Mini) → IsPlanOf (of_entries (snapshot_entries used version child slot)) mini
-        → IsPlanOf (state_with (snapshot_writes c)) mini
+        → IsPlanOf (state_with (snapshot_writes nodes c)) mini
     snapshot_shown mini p = subst (λ (t : State). IsPlanOf t mini) snapshot_state p
 
     pub snapshot_planned : SnapshotIsPlanned → IsName child
@@ -412,7 +488,7 @@ module _ (used : List CatEntry) (nodes : ℕ) (name child : List ℕ) (version :
           e,
           is,
           λ es shown. subst (λ (m : Mini). IsPlanned es (heads_in used) (Snapshot name child) m says.Made) (sym q.0)
-              (law (heads_in used) (state_with (snapshot_writes c)) c (is_try right (below_last root.seq page.seq_high unworn.0)) admitted (below_last e.seq entry.seq_high unworn.1) reads_apart snapshot_apart reads_stand snapshot_stand es shown),
+              (law (heads_in used) (state_with (snapshot_writes nodes c)) c (is_try right (below_last root.seq page.seq_high unworn.0)) admitted (below_last e.seq entry.seq_high unworn.1) reads_apart snapshot_apart reads_stand snapshot_stand es shown),
         )
 
     pub snapshot_made : (mini : Mini)
@@ -422,7 +498,7 @@ module _ (used : List CatEntry) (nodes : ℕ) (name child : List ℕ) (version :
       version = version;
       entry = e;
       is = is;
-      items = (snapshot_shown mini p).0 ∙ plan_with (snapshot_writes c) snapshot_stand;
+      items = (snapshot_shown mini p).0 ∙ plan_with (snapshot_writes nodes c) snapshot_stand;
     }
 
     pub snapshot_refused : (error : PlanError)
@@ -455,7 +531,7 @@ module _ (used : List CatEntry) (nodes : ℕ) (name child : List ℕ) (version :
     -- A Branch
 
     branch_shown : (mini : Mini) → IsPlanOf (of_entries (branch_entries used version child slot)) mini
-        → IsPlanOf (state_with (branch_writes c)) mini
+        → IsPlanOf (state_with (branch_writes nodes c)) mini
     branch_shown mini p = subst (λ (t : State). IsPlanOf t mini) branch_state p
 
     pub branch_planned : BranchIsPlanned → IsName child
@@ -469,7 +545,7 @@ module _ (used : List CatEntry) (nodes : ℕ) (name child : List ℕ) (version :
           e,
           is,
           λ es shown. subst (λ (m : Mini). IsPlanned es (heads_in used) (Branch name child) m says.Made) (sym q.0)
-              (law (heads_in used) (state_with (branch_writes c)) c (is_try right (below_last root.seq page.seq_high unworn)) admitted reads_apart branch_apart reads_stand branch_stand es shown),
+              (law (heads_in used) (state_with (branch_writes nodes c)) c (is_try right (below_last root.seq page.seq_high unworn)) admitted reads_apart branch_apart reads_stand branch_stand es shown),
         )
 
     pub branch_made : (mini : Mini)
@@ -479,7 +555,7 @@ module _ (used : List CatEntry) (nodes : ℕ) (name child : List ℕ) (version :
       version = version;
       entry = e;
       is = is;
-      items = (branch_shown mini p).0 ∙ plan_with (branch_writes c) branch_stand;
+      items = (branch_shown mini p).0 ∙ plan_with (branch_writes nodes c) branch_stand;
     }
 
     pub branch_refused : (error : PlanError)

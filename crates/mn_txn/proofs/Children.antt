@@ -1,11 +1,11 @@
 -- The plans of a Snapshot and of a Branch: their places, their numbers and their effect.
 use Rattle.std.proofs.Common.{◌≡◌, ◌⊎◌, inl, inr, ◌↔◌, ℕ, zero, suc, ◌+◌, ◌-◌, ◌*◌, ◌^◌, ◌<◌, ◌≤◌, Bool, true, false, not, List, [], ◌∷◌, ◌++◌, map, length, Contains, Option, Some, None, refl, subst, sym, ap, ◌∙◌, arith, slice_get, slice_set, slice_index_or, if◌then◌else◌}
 use Rattle.std.specs.Prelude.{filter, nat_eq, nat_le, bytes_eq, is_some}
-use Rattle.std.specs.List.{AllByRecursion, range_with_len}
+use Rattle.std.specs.List.{AllByRecursion, flat_map, range_with_len}
 use Rattle.std.specs.Option.{option_map, option_or}
 use Rattle.std.proofs.lemmas.Bool.{eq-eqb, eqb-true, ne_eqb, cases_eq}
 use Rattle.std.proofs.lemmas.List.{map-append, length-map, length-set}
-use Rattle.std.proofs.lemmas.List.Elements.{Contains-append_left}
+use Rattle.std.proofs.lemmas.List.Elements.{Contains-append_left, Contains-append_cases}
 use Rattle.std.proofs.lemmas.Option.{slice_get-map, slice_get_within}
 use Rattle.mn_base.specs.Store.{Head, Store, heads_of, head_named, number_named, child_refusal, refusal, refusal_at, unless_refused, op_version, applied}
 use Rattle.mn_base.specs.declared.ids.Addr.{Addr}
@@ -32,13 +32,14 @@ use Rattle.mn_tree.proofs.Trees.Puts.{same_itself}
 use Rattle.mn_runs.specs.Seen.{Place}
 use Rattle.mn_law.specs.Places.{page_place, entry_place, catalog_node, count_place, front_place, IsPagePlace}
 use Rattle.mn_runs.specs.declared.entry.Entry.{Entry}
-use Rattle.mn_law.specs.Planned.{IsWholePlace, ComeOnce, compare_places, write_places, IsRootOf, IsWrittenCount, IsCompared, IsComparedFront, HasNextNumber, IsPickOf, WritesPages, ContinuesCatalog, PlanActs, ComparesHold}
+use Rattle.mn_law.specs.Planned.{IsWholePlace, ComeOnce, compare_places, write_places, IsRootOf, IsWrittenCount, IsComparedFront, HasNextNumber, IsPickOf, WritesPages, ContinuesCatalog, PlanActs, ComparesHold}
 use Rattle.mn_plans.specs.Plans.{write_page, write_count}
-use Rattle.mn_plans.specs.Growth.{taken_on, AreNextSlots, node_no, count_in, count_writes, AreCounts, AreDifferent, NextSlotsAreFree, over, write_held, Numbered, write_entry, write_numbered, entries_with, entries_after, AreNextEntries, WritesLeaveVersions, AreMet, ComparesTell, NumbersGoOn}
+use Rattle.mn_plans.specs.Growth.{taken_on, AreNextSlots, node_no, count_in, count_writes, AreCounts, AreDifferent, NextSlotsAreFree, over, write_held, Numbered, write_entry, write_entries, entries_with, entries_after, AreNextEntries, WritesLeaveVersions, AreMet, ComparesTell, NumbersGoOn}
 use Rattle.mn_plans.proofs.Compares.{still_named, fronts_compared, number_within}
 use Rattle.mn_plans.proofs.Entries.{with_within, with_behind}
 use Rattle.mn_plans.proofs.Grown.{addr_differs}
 use Rattle.mn_plans.proofs.PutInPlace.{not_count}
+use Rattle.mn_plans.proofs.Told.{all_there}
 use Rattle.mn_txn.specs.declared.image.Image.{Image}
 use Rattle.mn_txn.specs.State.{image, ImagesAreApart}
 use Rattle.mn_txn.specs.Order.{in_item_order}
@@ -46,9 +47,9 @@ use Rattle.mn_txn.specs.Plan.{plan_of, compare_of, write_of}
 use Rattle.mn_txn.specs.Laws.{image_place, PlansAreInOrder, ReadsAreShown}
 use Rattle.mn_txn.specs.Attempt.{page_image}
 use Rattle.mn_txn.specs.Children.{ChildTry, IsChildTry, entry_image, unused_image, count_read, count_written, root_written, copy_written, child_reads, snapshot_writes, branch_writes, SnapshotIsPlanned, BranchIsPlanned}
-use Rattle.mn_txn.proofs.Attempts.{page_is, same_length, places_once, compares_pass}
+use Rattle.mn_txn.proofs.Attempts.{page_is, same_length, fronts_once, places_once, compares_pass}
 use Rattle.mn_txn.proofs.Known.{nodes_are, page_shown, entry_shown}
-use Rattle.mn_txn.proofs.Lists.{contains_map}
+use Rattle.mn_txn.proofs.Lists.{all_mapped, contains_map}
 use Rattle.mn_txn.proofs.Plans.{compared, written, apart_in_order, plan_shown, shown_in_order}
 
 -- The node that gives the slot
@@ -126,17 +127,43 @@ next_is seq low = ap (λ b. if b then seq else seq + 1) (ne_eqb seq (2 ^ 64 - 1)
 
 -- Images
 
--- the entry of a version, as it is written
-abbrev pub numbered_image : Numbered → Image
-numbered_image x = image (node_no 0) (64 + 64 * x.0) (entry_bytes x.1)
+-- the entry of a version, as it is written on a node
+abbrev pub numbered_image : ℕ → Numbered → Image
+numbered_image n x = image (node_no n) (64 + 64 * x.0) (entry_bytes x.1)
 
--- what is written: the root, its copy, some entries, and the count
-abbrev pub writes_of : ChildTry → List Numbered → List Image
-writes_of c ws = root_written c ∷ copy_written c ∷ (map numbered_image ws ++ count_written c ∷ [])
+-- entries on each of some nodes
+abbrev pub images_on : List Numbered → List ℕ → List Image
+images_on ws ns = flat_map (λ n. map (numbered_image n) ws) ns
 
-entries_written : (ws : List Numbered) → map write_of (map numbered_image ws) ≡ map write_numbered ws
-entries_written [] = refl
-entries_written (w ∷ ws) = ap (λ (l : List Item). write_numbered w ∷ l) (entries_written ws)
+-- what is written: the root, its copy, some entries on each node, and the count
+abbrev pub writes_of : ℕ → ChildTry → List Numbered → List Image
+writes_of nodes c ws = root_written c ∷ copy_written c ∷ (images_on ws (range_with_len 0 nodes) ++ count_written c ∷ [])
+
+entries_written_on : (n : ℕ) (ws : List Numbered) → map write_of (map (numbered_image n) ws) ≡ map (λ (w : Numbered). write_entry (node_no n) w.0 w.1) ws
+entries_written_on n [] = refl
+entries_written_on n (w ∷ ws) = ap (λ (l : List Item). write_entry (node_no n) w.0 w.1 ∷ l) (entries_written_on n ws)
+
+entries_written : (ws : List Numbered) (ns : List ℕ) → map write_of (images_on ws ns) ≡ flat_map (λ n. map (λ (w : Numbered). write_entry (node_no n) w.0 w.1) ws) ns
+entries_written ws [] = refl
+entries_written ws (n ∷ ns) =
+    map-append write_of (map (numbered_image n) ws) (images_on ws ns)
+    ∙ (ap (λ (l : List Item). l ++ map write_of (images_on ws ns)) (entries_written_on n ws) ∙ ap (λ (l : List Item). map (λ (w : Numbered). write_entry (node_no n) w.0 w.1) ws ++ l) (entries_written ws ns))
+
+-- the places of entries on each of some nodes
+abbrev places_on : List Numbered → List ℕ → List Place
+places_on ws ns = flat_map (λ n. map (λ (x : Numbered). entry_place (node_no n) x.0) ws) ns
+
+-- what holds of the place of each entry on each node
+all_places : (P : Place → Type 0) (ws : List Numbered) (ns : List ℕ) → ((n : ℕ) → AllByRecursion (λ (x : Numbered). P (entry_place (node_no n) x.0)) ws) → AllByRecursion P (places_on ws ns)
+all_places P ws [] each = tt
+all_places P ws (n ∷ ns) each = all_append P (map (λ (x : Numbered). entry_place (node_no n) x.0) ws) (places_on ws ns) (all_mapped P (λ (x : Numbered). entry_place (node_no n) x.0) ws (each n)) (all_places P ws ns each)
+
+-- no place of an entry is that of a count
+entry_no_count : (m n : NodeNo) (v : ℕ) (place : Place) → place ≡ entry_place m v → place ≡ count_place n → ⊥
+entry_no_count m n v place e f = let same : ◌≡◌ {A = ℕ} 64 8 = ap (λ (p : Place). p.length) (sym e ∙ f) in absurd (omega arith)
+
+entry_no_page : (m : NodeNo) (v : ℕ) (x : Addr) (place : Place) → place ≡ entry_place m v → place ≡ page_place x → ⊥
+entry_no_page m v x place e f = let same : ◌≡◌ {A = ℕ} 64 1024 = ap (λ (p : Place). p.length) (sym e ∙ f) in absurd (omega arith)
 
 -- A try over a memory in which its compares hold
 
@@ -181,7 +208,9 @@ module _ (copies_are_pages : CopiesArePages) (next_slots_are_free : NextSlotsAre
   root_at = tells.pages c.entry.root c.root (has (page_image c.entry.root c.root) (0, omega arith, refl)) (page_shown es (child_reads c) c.entry.root c.root was_shown is.root (0, omega arith, refl)) (subst (λ k. c.entry.root.node.0 < k) few_nodes is.within) is.root
 
   pub entry_at : slice_get f.entries v ≡ Some c.entry
-  entry_at = tells.entries v c.entry (has (entry_image c.version c.entry) (1, omega arith, refl)) (entry_shown es (child_reads c) v c.entry was_shown is.entry (1, omega arith, refl)) few is.entry
+  entry_at =
+      tells.entries catalog_node v c.entry (has (entry_image catalog_node c.version c.entry) (1, omega arith, refl)) (entry_shown es (child_reads c) catalog_node v c.entry was_shown is.entry (1, omega arith, refl))
+      (let low = is.within in let e = few_nodes in omega (arith, low, e)) few is.entry
 
   unused : length f.entries ≤ w
   unused = tells.unused w (has (unused_image c.number) (2, omega arith, refl)) (was_shown.1.1.0 (λ e. absurd (omega (arith, e)))).1 few_kid
@@ -266,39 +295,49 @@ module _ (copies_are_pages : CopiesArePages) (next_slots_are_free : NextSlotsAre
   -- The plan with these entries written
 
   module _ (ws : List Numbered) (next : AreNextEntries f.entries ws) (places : AllByRecursion (λ (x : Numbered). (x.0 < 64) × IsEntry x.1) ws) where
+    abbrev ns : List ℕ
+    ns = range_with_len 0 nodes
+
     abbrev pub mini : Mini
-    mini = record { nodes = nodes; items = map compare_of (child_reads c) ++ map write_of (writes_of c ws) }
+    mini = record { nodes = nodes; items = map compare_of (child_reads c) ++ map write_of (writes_of nodes c ws) }
 
     pub effect : (after : Store) → AreShown (entries_after f.entries ws) now after → Holds (memory_after memory mini.items) after
     effect after shown =
-        subst (λ (m : List (List ℕ)). Holds m after) (sym (compares_pass memory (child_reads c) (map write_of (writes_of c ws)) ∙ ap (memory_after memory) items_are))
+        subst (λ (m : List (List ℕ)). Holds m after) (sym (compares_pass memory (child_reads c) (map write_of (writes_of nodes c ws)) ∙ ap (memory_after memory) items_are))
         (writes_leave_versions memory store after holds changed new ws c.counts ((c.root, root_at), tt) (tt, tt) (are_pages.0, (are_pages.1, tt)) counts_ok is.slot next shown.tree shown.shows)
       where
-        items_are : map write_of (writes_of c ws) ≡ map write_held changed ++ map write_held new ++ map write_numbered ws ++ count_writes c.counts (c.slot ∷ [])
+        items_are : map write_of (writes_of nodes c ws) ≡ map write_held changed ++ map write_held new ++ write_entries (node_count f) ws ++ count_writes c.counts (c.slot ∷ [])
         items_are =
             ap (λ (l : List Item). write_page c.entry.root marked ∷ write_page c.slot copy ∷ l)
-            (map-append write_of (map numbered_image ws) (count_written c ∷ [])
-            ∙ (ap (λ (l : List Item). l ++ write_count (node_no node) (c.slot.slot + 1) ∷ []) (entries_written ws) ∙ ap (λ (l : List Item). map write_numbered ws ++ l) (sym (one_count c.counts c.slot is.slot))))
+            (map-append write_of (images_on ws ns) (count_written c ∷ [])
+            ∙ (ap (λ (l : List Item). l ++ write_count (node_no node) (c.slot.slot + 1) ∷ []) (entries_written ws ns)
+            ∙ (ap (λ (k : ℕ). write_entries k ws ++ write_count (node_no node) (c.slot.slot + 1) ∷ []) few_nodes ∙ ap (λ (l : List Item). write_entries (node_count f) ws ++ l) (sym (one_count c.counts c.slot is.slot)))))
 
     abbrev entry_places : List Place
-    entry_places = map (λ (x : Numbered). entry_place catalog_node x.0) ws
+    entry_places = places_on ws ns
 
     abbrev others : List Place
     others = entry_places ++ count_place (node_no node) ∷ []
 
-    entries_are : (xs : List Numbered) → AllByRecursion (λ (x : Numbered). (x.0 < 64) × IsEntry x.1) xs → map image_place (map numbered_image xs) ≡ map (λ (x : Numbered). entry_place catalog_node x.0) xs
-    entries_are [] all = refl
-    entries_are (x ∷ xs) all =
-        ap (λ (p : Place). p ∷ map image_place (map numbered_image xs)) (same_length (node_no 0) (64 + 64 * x.0) (length (entry_bytes x.1)) 64 (entry_length x.1 (all.0).1))
-        ∙ ap (λ (l : List Place). entry_place catalog_node x.0 ∷ l) (entries_are xs all.1)
+    entries_here : (n : ℕ) (xs : List Numbered) → AllByRecursion (λ (x : Numbered). (x.0 < 64) × IsEntry x.1) xs → map image_place (map (numbered_image n) xs) ≡ map (λ (x : Numbered). entry_place (node_no n) x.0) xs
+    entries_here n [] all = refl
+    entries_here n (x ∷ xs) all =
+        ap (λ (p : Place). p ∷ map image_place (map (numbered_image n) xs)) (same_length (node_no n) (64 + 64 * x.0) (length (entry_bytes x.1)) 64 (entry_length x.1 (all.0).1))
+        ∙ ap (λ (l : List Place). entry_place (node_no n) x.0 ∷ l) (entries_here n xs all.1)
+
+    entries_are : (ms : List ℕ) → map image_place (images_on ws ms) ≡ places_on ws ms
+    entries_are [] = refl
+    entries_are (n ∷ ms) =
+        map-append image_place (map (numbered_image n) ws) (images_on ws ms)
+        ∙ (ap (λ (l : List Place). l ++ map image_place (images_on ws ms)) (entries_here n ws places) ∙ ap (λ (l : List Place). map (λ (x : Numbered). entry_place (node_no n) x.0) ws ++ l) (entries_are ms))
 
     compared_are : compare_places mini ≡ map front_place (page_place c.entry.root ∷ entry_place catalog_node v ∷ entry_place catalog_node w ∷ count_place (node_no node) ∷ [])
-    compared_are = compared (child_reads c) (writes_of c ws)
+    compared_are = compared (child_reads c) (writes_of nodes c ws)
 
     written_are : write_places mini ≡ page_place c.entry.root ∷ page_place c.slot ∷ others
     written_are =
-        written (child_reads c) (writes_of c ws)
-        ∙ (ap (λ (l : List Place). image_place (root_written c) ∷ image_place (copy_written c) ∷ l) (map-append image_place (map numbered_image ws) (count_written c ∷ []) ∙ ap (λ (l : List Place). l ++ count_place (node_no node) ∷ []) (entries_are ws places))
+        written (child_reads c) (writes_of nodes c ws)
+        ∙ (ap (λ (l : List Place). image_place (root_written c) ∷ image_place (copy_written c) ∷ l) (map-append image_place (images_on ws ns) (count_written c ∷ []) ∙ ap (λ (l : List Place). l ++ count_place (node_no node) ∷ []) (entries_are ns))
         ∙ (ap (λ (p : Place). p ∷ image_place (copy_written c) ∷ others) (page_is c.entry.root marked are_pages.0) ∙ ap (λ (p : Place). page_place c.entry.root ∷ p ∷ others) (page_is c.slot copy are_pages.1)))
 
     -- Compares
@@ -324,11 +363,19 @@ module _ (copies_are_pages : CopiesArePages) (next_slots_are_free : NextSlotsAre
     there place (suc (suc (suc (suc k))), l, e) = absurd (omega arith)
 
     -- a count that is written is the one count
-    only_count : (n : NodeNo) (place : Place) → place ≡ count_place n → (xs : List Numbered) → Contains (map (λ (x : Numbered). entry_place catalog_node x.0) xs ++ count_place (node_no node) ∷ []) place → count_place (node_no node) ≡ place
-    only_count n place e [] (zero, l, g) = g
-    only_count n place e [] (suc k, l, g) = absurd (omega arith)
-    only_count n place e (x ∷ xs) (zero, l, g) = let same : ◌≡◌ {A = ℕ} 64 8 = ap (λ (p : Place). p.length) (g ∙ e) in absurd (omega arith)
-    only_count n place e (x ∷ xs) (suc k, l, g) = only_count n place e xs (k, omega arith, g)
+    only_count : (n : NodeNo) (place : Place) → place ≡ count_place n → Contains others place → count_place (node_no node) ≡ place
+    only_count n place e has = elim (Contains-append_cases entry_places (count_place (node_no node) ∷ []) place has) as (λ _. count_place (node_no node) ≡ place) [
+      | inl entry ↦ absurd (all_there (λ p. p ≡ place → ⊥) entry_places place (all_places (λ p. p ≡ place → ⊥) ws ns (λ m. no_entry m ws)) entry refl)
+      | inr count ↦ last count
+    ]
+      where
+        no_entry : (m : ℕ) (xs : List Numbered) → AllByRecursion (λ (x : Numbered). entry_place (node_no m) x.0 ≡ place → ⊥) xs
+        no_entry m [] = tt
+        no_entry m (x ∷ xs) = (λ g. entry_no_count (node_no m) n x.0 place (sym g) e, no_entry m xs)
+
+        last : Contains (count_place (node_no node) ∷ []) place → count_place (node_no node) ≡ place
+        last (zero, l, g) = g
+        last (suc k, l, g) = absurd (omega arith)
 
     back : (place : Place) → Wanted place → Contains (page_place c.entry.root ∷ entry_place catalog_node v ∷ entry_place catalog_node w ∷ count_place (node_no node) ∷ []) place
     back place (inl root) = (0, omega arith, ap (λ (e : CatEntry). page_place e.root) (entry_same c.entry root.0 (sym entry_at ∙ root.1)) ∙ sym root.2)
@@ -339,7 +386,7 @@ module _ (copies_are_pages : CopiesArePages) (next_slots_are_free : NextSlotsAre
         of_write : Contains (page_place c.entry.root ∷ page_place c.slot ∷ others) place → count_place (node_no node) ≡ place
         of_write (zero, l, e) = absurd (not_count c.entry.root count.0.0 place e count.0.1)
         of_write (suc zero, l, e) = absurd (not_count c.slot count.0.0 place e count.0.1)
-        of_write (suc (suc k), l, e) = only_count count.0.0 place count.0.1 ws (k, omega arith, e)
+        of_write (suc (suc k), l, e) = only_count count.0.0 place count.0.1 (k, omega arith, e)
 
     pub compares_are : (range : Place) → Contains (compare_places mini) range ↔ ((place : Place) × Wanted place × (range ≡ front_place place))
     compares_are range = subst (λ (l : List Place). Contains l range ↔ ((place : Place) × Wanted place × (range ≡ front_place place))) (sym compared_are)
@@ -347,7 +394,7 @@ module _ (copies_are_pages : CopiesArePages) (next_slots_are_free : NextSlotsAre
 
     -- Numbers
 
-    pub numbers : AllByRecursion (λ (x : Numbered). HasNextNumber memory (write_entry x.0 x.1)) ws → AllByRecursion (HasNextNumber memory) mini.items
+    pub numbers : ((n : ℕ) → n < node_count f → AllByRecursion (λ (x : Numbered). HasNextNumber memory (write_entry (node_no n) x.0 x.1)) ws) → AllByRecursion (HasNextNumber memory) mini.items
     numbers of_entries =
         let go = numbers_go_on memory store holds in (
           tt,
@@ -361,8 +408,8 @@ module _ (copies_are_pages : CopiesArePages) (next_slots_are_free : NextSlotsAre
                   go.changed c.entry.root c.root marked root_at are_pages.0 (next_is c.root.seq is.seq),
                   (
                     go.new c.slot copy (free.0).0.0 (free.0).0.1 (free.0).0.3 are_pages.1 refl,
-                    subst (AllByRecursion (HasNextNumber memory)) (sym (map-append write_of (map numbered_image ws) (count_written c ∷ [])))
-                        (all_append (HasNextNumber memory) (map write_of (map numbered_image ws)) (write_count (node_no node) (c.slot.slot + 1) ∷ []) (each ws of_entries) (go.counts (node_no node) (c.slot.slot + 1), tt)),
+                    subst (AllByRecursion (HasNextNumber memory)) (sym (map-append write_of (images_on ws ns) (count_written c ∷ [])))
+                        (all_append (HasNextNumber memory) (map write_of (images_on ws ns)) (write_count (node_no node) (c.slot.slot + 1) ∷ []) (each 0 nodes (omega arith)) (go.counts (node_no node) (c.slot.slot + 1), tt)),
                   ),
                 ),
               ),
@@ -370,9 +417,16 @@ module _ (copies_are_pages : CopiesArePages) (next_slots_are_free : NextSlotsAre
           ),
         )
       where
-        each : (xs : List Numbered) → AllByRecursion (λ (x : Numbered). HasNextNumber memory (write_entry x.0 x.1)) xs → AllByRecursion (HasNextNumber memory) (map write_of (map numbered_image xs))
-        each [] all = tt
-        each (x ∷ xs) all = (all.0, each xs all.1)
+        here : (n : ℕ) (xs : List Numbered) → AllByRecursion (λ (x : Numbered). HasNextNumber memory (write_entry (node_no n) x.0 x.1)) xs → AllByRecursion (HasNextNumber memory) (map write_of (map (numbered_image n) xs))
+        here n [] all = tt
+        here n (x ∷ xs) all = (all.0, here n xs all.1)
+
+        each : (a k : ℕ) → a + k ≤ nodes → AllByRecursion (HasNextNumber memory) (map write_of (images_on ws (range_with_len a k)))
+        each a zero low = tt
+        each a (suc k) low =
+            subst (AllByRecursion (HasNextNumber memory)) (sym (map-append write_of (map (numbered_image a) ws) (images_on ws (range_with_len (a + 1) k))))
+            (all_append (HasNextNumber memory) (map write_of (map (numbered_image a) ws)) (map write_of (images_on ws (range_with_len (a + 1) k)))
+            (here a ws (of_entries a (subst (λ (m : ℕ). a < m) few_nodes (omega arith)))) (each (a + 1) k (omega arith)))
 
     -- Places
 
@@ -386,32 +440,47 @@ module _ (copies_are_pages : CopiesArePages) (next_slots_are_free : NextSlotsAre
       free = ((free.0).0.0, tt);
       items = ((are_pages.1, (5, omega arith, refl)), tt);
       in_order = (tt, tt);
-      no_more = no_more ws;
+      no_more = all_append (λ place. IsPagePlace place → ⊥) entry_places (count_place (node_no node) ∷ []) (all_places (λ place. IsPagePlace place → ⊥) ws ns (λ m. no_page m ws))
+          (λ page. not_count page.0 (node_no node) (count_place (node_no node)) (sym page.1) refl, tt);
+      counted = all_append GetsPage entry_places (count_place (node_no node) ∷ []) (all_places GetsPage ws ns (λ m. no_entry m ws)) (λ n e. (record { addr = c.slot; page = copy }, (0, omega arith, refl), ap (λ (p : Place). p.node) e), tt);
     }
       where
-        no_more : (xs : List Numbered) → AllByRecursion (λ place. IsPagePlace place → ⊥) (map (λ (x : Numbered). entry_place catalog_node x.0) xs ++ count_place (node_no node) ∷ [])
-        no_more [] = ((λ page. not_count page.0 (node_no node) (count_place (node_no node)) (sym page.1) refl), tt)
-        no_more (x ∷ xs) = ((λ page. let same : ◌≡◌ {A = ℕ} 64 1024 = ap (λ (p : Place). p.length) page.1 in absurd (omega arith)), no_more xs)
+        GetsPage : Place → Type 0
+        GetsPage place = (n : NodeNo) → place ≡ count_place n → (h : Held) × Contains new h × (h.addr.node ≡ n)
+
+        no_page : (m : ℕ) (xs : List Numbered) → AllByRecursion (λ (x : Numbered). IsPagePlace (entry_place (node_no m) x.0) → ⊥) xs
+        no_page m [] = tt
+        no_page m (x ∷ xs) = (λ page. entry_no_page (node_no m) x.0 page.0 (entry_place (node_no m) x.0) refl page.1, no_page m xs)
+
+        no_entry : (m : ℕ) (xs : List Numbered) → AllByRecursion (λ (x : Numbered). GetsPage (entry_place (node_no m) x.0)) xs
+        no_entry m [] = tt
+        no_entry m (x ∷ xs) = (λ n e. absurd (entry_no_count (node_no m) n x.0 (entry_place (node_no m) x.0) refl e), no_entry m xs)
 
     pub wholes : AllByRecursion IsWholePlace (write_places mini)
-    wholes = subst (AllByRecursion IsWholePlace) (sym written_are) (inl (c.entry.root, refl), (inl (c.slot, refl), each ws places))
+    wholes =
+        subst (AllByRecursion IsWholePlace) (sym written_are)
+        (inl (c.entry.root, refl), (inl (c.slot, refl), all_append IsWholePlace entry_places (count_place (node_no node) ∷ []) (all_places IsWholePlace ws ns (λ m. each m ws places)) (inr (inr (node_no node, refl)), tt)))
       where
-        each : (xs : List Numbered) → AllByRecursion (λ (x : Numbered). (x.0 < 64) × IsEntry x.1) xs → AllByRecursion IsWholePlace (map (λ (x : Numbered). entry_place catalog_node x.0) xs ++ count_place (node_no node) ∷ [])
-        each [] all = (inr (inr (node_no node, refl)), tt)
-        each (x ∷ xs) all = (inr (inl (x.0, (all.0).0, refl)), each xs all.1)
+        each : (m : ℕ) (xs : List Numbered) → AllByRecursion (λ (x : Numbered). (x.0 < 64) × IsEntry x.1) xs → AllByRecursion (λ (x : Numbered). IsWholePlace (entry_place (node_no m) x.0)) xs
+        each m [] all = tt
+        each m (x ∷ xs) all = (inr (inl (node_no m, x.0, (all.0).0, refl)), each m xs all.1)
 
-    pub once : ImagesAreApart (writes_of c ws) → ComeOnce (write_places mini)
-    once apart' = subst ComeOnce (sym (written (child_reads c) (writes_of c ws))) (places_once (writes_of c ws) apart')
+    pub once : ImagesAreApart (writes_of nodes c ws) → ComeOnce (write_places mini)
+    once apart' = subst ComeOnce (sym (written (child_reads c) (writes_of nodes c ws))) (places_once (writes_of nodes c ws) apart')
+
+    pub compared_once : ImagesAreApart (child_reads c) → ComeOnce (compare_places mini)
+    compared_once apart' = subst ComeOnce (sym (compared (child_reads c) (writes_of nodes c ws))) (fronts_once (child_reads c) apart')
 
     -- what the operation's plan does
     pub acts : (op : Op) → op_version op ≡ c.name → Holds (memory_after memory mini.items) (applied store op).store → says.Made ≡ (applied store op).reply
-        → ((range : Place) → Contains (compare_places mini) range ↔ IsComparedFront f store v op mini range) → AllByRecursion (λ (x : Numbered). HasNextNumber memory (write_entry x.0 x.1)) ws → ImagesAreApart (writes_of c ws)
-        → PlanActs memory store holds op mini says.Made
-    acts op name effect' replies compares of_entries apart' = record {
+        → ((range : Place) → Contains (compare_places mini) range ↔ IsComparedFront f store v op mini range) → ((n : ℕ) → n < node_count f → AllByRecursion (λ (x : Numbered). HasNextNumber memory (write_entry (node_no n) x.0 x.1)) ws) → ImagesAreApart (child_reads c)
+        → ImagesAreApart (writes_of nodes c ws) → PlanActs memory store holds op mini says.Made
+    acts op name effect' replies compares of_entries apart_reads apart' = record {
       effect = effect';
       replies = replies;
       compares = λ u at range. subst (λ k. Contains (compare_places mini) range ↔ IsComparedFront f store k op mini range) (same_number v u (sym number ∙ (ap (number_named (heads_of store)) (sym name) ∙ at))) (compares range);
       nowhere = λ none. absurd (named_not v (sym number ∙ (ap (number_named (heads_of store)) (sym name) ∙ none)));
+      apart = compared_once apart_reads;
       wholes = wholes;
       once = once apart';
       numbers = numbers of_entries;
@@ -432,21 +501,21 @@ module _ (copies_are_pages : CopiesArePages) (next_slots_are_free : NextSlotsAre
   within : v < length f.entries
   within = slice_get_within f.entries v c.entry entry_at
 
-  kid_number : HasNextNumber memory (write_entry w kid)
-  kid_number = subst (λ k. HasNextNumber memory (write_entry k kid)) as_many ((numbers_go_on memory store holds).next kid (subst (λ k. k < 64) (sym as_many) few_kid) child_is refl)
+  kid_number : (n : ℕ) → n < node_count f → HasNextNumber memory (write_entry (node_no n) w kid)
+  kid_number n there = subst (λ k. HasNextNumber memory (write_entry (node_no n) k kid)) as_many ((numbers_go_on memory store holds).next (node_no n) kid there (subst (λ k. k < 64) (sym as_many) few_kid) child_is refl)
 
   -- A Snapshot
 
   abbrev shut : CatEntry
   shut = frozen_entry c.entry
 
-  pub snapshot_acts : SnapshotIsShown → c.entry.frozen ≡ false → c.entry.seq + 1 < 2 ^ 64 → ImagesAreApart (snapshot_writes c)
-      → PlanActs memory store holds (Snapshot c.name c.child) (record { nodes = nodes; items = map compare_of (child_reads c) ++ map write_of (snapshot_writes c) }) says.Made
-  snapshot_acts snapshot_is_shown writable low_seq apart' =
+  pub snapshot_acts : SnapshotIsShown → c.entry.frozen ≡ false → c.entry.seq + 1 < 2 ^ 64 → ImagesAreApart (child_reads c) → ImagesAreApart (snapshot_writes nodes c)
+      → PlanActs memory store holds (Snapshot c.name c.child) (record { nodes = nodes; items = map compare_of (child_reads c) ++ map write_of (snapshot_writes nodes c) }) says.Made
+  snapshot_acts snapshot_is_shown writable low_seq apart_reads apart' =
       acts ws next places (Snapshot c.name c.child) refl
       (effect ws next places (applied store (Snapshot c.name c.child)).store (subst (λ (es : List CatEntry). AreShown es now (applied store (Snapshot c.name c.child)).store) (sym entries_are') (snapshot_is_shown f.entries (page_at f) now store c.name adding adds refused)))
       (sym (ap (λ r. (unless_refused store (Snapshot c.name c.child) r).reply) refused)) (λ place. compares_are ws next places place)
-      ((numbers_go_on memory store holds).entries v c.entry shut entry_at shut_is (next_is c.entry.seq low_seq), (kid_number, tt)) apart'
+      (λ n there. ((numbers_go_on memory store holds).entries (node_no n) v c.entry shut there entry_at shut_is (next_is c.entry.seq low_seq), (kid_number n there, tt))) apart_reads apart'
     where
       ws : List Numbered
       ws = (v, shut) ∷ (w, kid) ∷ []
@@ -480,12 +549,12 @@ module _ (copies_are_pages : CopiesArePages) (next_slots_are_free : NextSlotsAre
 
   -- A Branch
 
-  pub branch_acts : BranchIsShown → c.entry.frozen ≡ true → ImagesAreApart (branch_writes c)
-      → PlanActs memory store holds (Branch c.name c.child) (record { nodes = nodes; items = map compare_of (child_reads c) ++ map write_of (branch_writes c) }) says.Made
-  branch_acts branch_is_shown frozen apart' =
+  pub branch_acts : BranchIsShown → c.entry.frozen ≡ true → ImagesAreApart (child_reads c) → ImagesAreApart (branch_writes nodes c)
+      → PlanActs memory store holds (Branch c.name c.child) (record { nodes = nodes; items = map compare_of (child_reads c) ++ map write_of (branch_writes nodes c) }) says.Made
+  branch_acts branch_is_shown frozen apart_reads apart' =
       acts ws next places (Branch c.name c.child) refl
       (effect ws next places (applied store (Branch c.name c.child)).store (subst (λ (es : List CatEntry). AreShown es now (applied store (Branch c.name c.child)).store) (sym entries_are') (branch_is_shown f.entries (page_at f) now store c.name adding adds refused)))
-      (sym (ap (λ r. (unless_refused store (Branch c.name c.child) r).reply) refused)) (λ place. compares_are ws next places place) (kid_number, tt) apart'
+      (sym (ap (λ r. (unless_refused store (Branch c.name c.child) r).reply) refused)) (λ place. compares_are ws next places place) (λ n there. (kid_number n there, tt)) apart_reads apart'
     where
       ws : List Numbered
       ws = (w, kid) ∷ []
@@ -517,8 +586,8 @@ snapshot_is_planned snapshot_is_shown copies_are_pages next_slots_are_free write
   shown = plan_shown es t was_shown;
   acts = λ memory store many sizes holds on hold.
       subst (λ (m : Mini). PlanActs memory store holds (Snapshot c.name c.child) m says.Made) (sym mini_is)
-      (snapshot_acts copies_are_pages next_slots_are_free writes_leave_versions compares_tell numbers_go_on kept t.nodes c is admitted.1 memory store many holds on (map write_of (snapshot_writes c)) es
-      (subst (λ (m : Mini). ComparesHold es memory m.items) mini_is hold) (subst (ReadsAreShown es) reads_are (shown_in_order es t.reads was_shown)) snapshot_is_shown admitted.0 low (subst ImagesAreApart writes_are (apart_in_order t.writes apart_writes)));
+      (snapshot_acts copies_are_pages next_slots_are_free writes_leave_versions compares_tell numbers_go_on kept t.nodes c is admitted.1 memory store many holds on (map write_of (snapshot_writes t.nodes c)) es
+      (subst (λ (m : Mini). ComparesHold es memory m.items) mini_is hold) (subst (ReadsAreShown es) reads_are (shown_in_order es t.reads was_shown)) snapshot_is_shown admitted.0 low (subst ImagesAreApart reads_are (apart_in_order t.reads apart_reads)) (subst ImagesAreApart writes_are (apart_in_order t.writes apart_writes)));
   order = in_order t apart_reads apart_writes;
   kind = tt;
 }
@@ -526,7 +595,7 @@ snapshot_is_planned snapshot_is_shown copies_are_pages next_slots_are_free write
     admitted : (c.entry.frozen ≡ false) × (child_refusal kept c.child ≡ None)
     admitted = writable_one c.entry.frozen (sym (ap (refusal_at kept (Snapshot c.name c.child)) (head_found kept c.name c.version.0 (entry_head c.entry) is.named is.head)) ∙ may)
 
-    mini_is : plan_of t ≡ record { nodes = t.nodes; items = map compare_of (child_reads c) ++ map write_of (snapshot_writes c) }
+    mini_is : plan_of t ≡ record { nodes = t.nodes; items = map compare_of (child_reads c) ++ map write_of (snapshot_writes t.nodes c) }
     mini_is =
         ap (λ (rs : List Image). let m : Mini = record { nodes = t.nodes; items = map compare_of rs ++ map write_of (in_item_order t.writes) } in m) reads_are
         ∙ ap (λ (ws : List Image). let m : Mini = record { nodes = t.nodes; items = map compare_of (child_reads c) ++ map write_of ws } in m) writes_are
@@ -536,8 +605,8 @@ branch_is_planned branch_is_shown copies_are_pages next_slots_are_free writes_le
   shown = plan_shown es t was_shown;
   acts = λ memory store many sizes holds on hold.
       subst (λ (m : Mini). PlanActs memory store holds (Branch c.name c.child) m says.Made) (sym mini_is)
-      (branch_acts copies_are_pages next_slots_are_free writes_leave_versions compares_tell numbers_go_on kept t.nodes c is admitted.1 memory store many holds on (map write_of (branch_writes c)) es
-      (subst (λ (m : Mini). ComparesHold es memory m.items) mini_is hold) (subst (ReadsAreShown es) reads_are (shown_in_order es t.reads was_shown)) branch_is_shown admitted.0 (subst ImagesAreApart writes_are (apart_in_order t.writes apart_writes)));
+      (branch_acts copies_are_pages next_slots_are_free writes_leave_versions compares_tell numbers_go_on kept t.nodes c is admitted.1 memory store many holds on (map write_of (branch_writes t.nodes c)) es
+      (subst (λ (m : Mini). ComparesHold es memory m.items) mini_is hold) (subst (ReadsAreShown es) reads_are (shown_in_order es t.reads was_shown)) branch_is_shown admitted.0 (subst ImagesAreApart reads_are (apart_in_order t.reads apart_reads)) (subst ImagesAreApart writes_are (apart_in_order t.writes apart_writes)));
   order = in_order t apart_reads apart_writes;
   kind = tt;
 }
@@ -545,7 +614,7 @@ branch_is_planned branch_is_shown copies_are_pages next_slots_are_free writes_le
     admitted : (c.entry.frozen ≡ true) × (child_refusal kept c.child ≡ None)
     admitted = frozen_one c.entry.frozen (sym (ap (refusal_at kept (Branch c.name c.child)) (head_found kept c.name c.version.0 (entry_head c.entry) is.named is.head)) ∙ may)
 
-    mini_is : plan_of t ≡ record { nodes = t.nodes; items = map compare_of (child_reads c) ++ map write_of (branch_writes c) }
+    mini_is : plan_of t ≡ record { nodes = t.nodes; items = map compare_of (child_reads c) ++ map write_of (branch_writes t.nodes c) }
     mini_is =
         ap (λ (rs : List Image). let m : Mini = record { nodes = t.nodes; items = map compare_of rs ++ map write_of (in_item_order t.writes) } in m) reads_are
         ∙ ap (λ (ws : List Image). let m : Mini = record { nodes = t.nodes; items = map compare_of (child_reads c) ++ map write_of ws } in m) writes_are

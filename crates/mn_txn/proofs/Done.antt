@@ -8,10 +8,11 @@ use Rattle.std.proofs.lemmas.List.{map-append}
 use Rattle.mn_base.specs.Store.{Store, Head, heads_of, is_change, ran, steps_run, applied}
 use Rattle.mn_base.specs.Tree.{parents_of}
 use Rattle.mn_base.specs.declared.ids.Addr.{Addr}
+use Rattle.mn_base.specs.declared.ids.NodeNo.{NodeNo}
 use Rattle.mn_base.specs.declared.op.Step.{Step}
 use Rattle.mn_base.specs.declared.op.Op.TheVariants.{Tx}
 use Rattle.mn_base.specs.declared.reply.Pair.{Pair}
-use Rattle.mn_base.proofs.Lists.{all_both, weaker}
+use Rattle.mn_base.proofs.Lists.{all_append, all_both, weaker}
 use Rattle.mn_mini.specs.declared.item.Item.{Item}
 use Rattle.mn_mini.specs.Mini.{Mini}
 use Rattle.mn_mini.specs.Flat.{memory_after}
@@ -44,11 +45,11 @@ use Rattle.mn_txn.specs.State.{ImagesAreApart}
 use Rattle.mn_txn.specs.Order.{in_item_order}
 use Rattle.mn_txn.specs.Plan.{plan_of, compare_of, write_of}
 use Rattle.mn_txn.specs.Laws.{PlansAreInOrder, ReadsAreShown}
-use Rattle.mn_txn.specs.Attempt.{Attempt, IsAttempt, IsDone, page_image, count_image, counts_written, done_reads, done_writes, DoneIsPlanned}
+use Rattle.mn_txn.specs.Attempt.{Attempt, IsAttempt, IsDone, least_addr, page_image, count_image, counts_written, done_reads, done_writes, DoneIsPlanned}
 use Rattle.mn_txn.proofs.Plans.{apart_in_order, plan_shown, shown_in_order}
-use Rattle.mn_txn.proofs.Lists.{noted_has, all_noted, pick_some}
+use Rattle.mn_txn.proofs.Lists.{mapped_back, noted_has, all_noted, pick_some}
 use Rattle.mn_txn.proofs.Found.{InStore, all_done, quiet_pairs, applied_reply, applied_store, applied_nothing}
-use Rattle.mn_txn.proofs.Known.{few_nodes, number, version, shown, none_new, agrees, page_of, entry_of, count_of, told, may, taken_low, gives, small_counts}
+use Rattle.mn_txn.proofs.Known.{least_low, giving_have, few_nodes, some_node, read_low, number, version, shown, none_new, agrees, page_of, entry_of, count_of, told, may, taken_low, gives, small_counts}
 use Rattle.mn_txn.proofs.Attempts.{Facts, mini, acts, compares_pass, held_image}
 
 -- Lists
@@ -139,6 +140,9 @@ module _ (moves_tell : MovesTell) (moves_read : MovesRead) (moves_come_once : Mo
   abbrev f : Forest
   f = holds.forest
 
+  abbrev node : NodeNo
+  node = least_addr (a.draft.read ++ a.slots)
+
   abbrev giving : List ℕ
   giving = giving_nodes a.counts a.slots
 
@@ -149,13 +153,13 @@ module _ (moves_tell : MovesTell) (moves_read : MovesRead) (moves_come_once : Mo
   now n = slice_index_or a.counts n 0 + taken_on a.slots n
 
   in_f : InStore f store a.name a.version.0
-  in_f = version kept nodes a is a.draft.read giving was more memory store many holds on moves_tell moves_read moves_come_once reads_are_draft compares_tell
+  in_f = version kept nodes a is a.draft.read node giving was more memory store many holds on moves_tell moves_read moves_come_once reads_are_draft compares_tell
 
   reads : AreReads a.moves a.draft
   reads = moves_read (parents_of kept) a.version a.entry.root a.moves a.draft is.leads
 
   page : (x : Addr) (p : Page) → is_noted a.draft.read x ≡ true → came_at a.moves x ≡ Some p → IsPage p → page_at f x ≡ Some p
-  page = page_of kept nodes a is a.draft.read giving was more memory store many holds on moves_tell moves_read moves_come_once reads_are_draft compares_tell es hold was_shown
+  page = page_of kept nodes a is a.draft.read node giving was more memory store many holds on moves_tell moves_read moves_come_once reads_are_draft compares_tell es hold was_shown
 
   -- a page of the read set stands in the forest as it came in
   stands : (x : Addr) (p : Page) → is_noted a.draft.read x ≡ true → came_at a.moves x ≡ Some p → (page_at f x ≡ Some p) × IsPage p
@@ -168,11 +172,7 @@ module _ (moves_tell : MovesTell) (moves_read : MovesRead) (moves_come_once : Mo
 
   told_all : AreTold f.entries (page_at f) a.version in_f.version.pairs a.moves a.draft a.steps a.reply
   unfolding in_f
-  told_all = told kept nodes a is a.draft.read giving was more memory store many holds on moves_tell moves_read moves_come_once reads_are_draft compares_tell es hold was_shown subset
-
-  may_run : (in_f.entry.frozen && list_any is_change a.steps) ≡ false
-  unfolding in_f
-  may_run = may kept nodes a is a.draft.read giving was more memory store many holds on moves_tell moves_read moves_come_once reads_are_draft compares_tell es hold was_shown subset
+  told_all = told kept nodes a is a.draft.read node giving was more memory store many holds on moves_tell moves_read moves_come_once reads_are_draft compares_tell es hold was_shown subset
 
   all_run : (steps_run in_f.version.pairs a.steps ≡ a.steps) × ((ran in_f.version.pairs a.steps).pairs ≡ pairs_after in_f.version.pairs a.steps)
   all_run = all_done in_f.version.pairs 1 in_f.version.pairs [] dn.found a.steps (sym told_all.replies ∙ dn.reply)
@@ -183,15 +183,29 @@ module _ (moves_tell : MovesTell) (moves_read : MovesRead) (moves_come_once : Mo
   -- the counts and the slots
   counts_ok : AreCounts f a.counts a.slots
   counts_ok = (
-    dn.counts.0 ∙ few_nodes kept nodes a is a.draft.read giving was more memory store many holds on moves_tell moves_read moves_come_once reads_are_draft compares_tell,
+    dn.counts.0 ∙ few_nodes kept nodes a is a.draft.read node giving was more memory store many holds on moves_tell moves_read moves_come_once reads_are_draft compares_tell,
     λ n some.
         let low = taken_low a.counts a.slots n dn.slots.0 some in
         let small = small_counts a.counts n dn.counts.1 in
-        count_of kept nodes a is a.draft.read giving was more memory store many holds on moves_tell moves_read moves_come_once reads_are_draft compares_tell es hold was_shown n (gives a.counts a.slots n low some) (subst (λ k. n < k) dn.counts.0 low) (omega arith),
+        count_of kept nodes a is a.draft.read node giving was more memory store many holds on moves_tell moves_read moves_come_once reads_are_draft compares_tell es hold was_shown n (gives a.counts a.slots n low some) (subst (λ k. n < k) dn.counts.0 low) (omega arith),
   )
 
   free : AllByRecursion (λ s. (page_at f s ≡ None) × (s.node.0 < node_count f) × (s.node.0 < 8) × (s.slot < max_slots)) a.slots × AreDifferent a.slots
   free = next_slots_are_free memory store holds a.counts a.slots counts_ok dn.slots.0
+
+  -- the node of the entry
+  node_low : node.0 < nodes
+  node_low =
+      least_low nodes (a.draft.read ++ a.slots)
+      (some_node kept nodes a is a.draft.read node giving was more memory store many holds on moves_tell moves_read moves_come_once reads_are_draft compares_tell)
+      (all_append (λ x. x.node.0 < nodes) a.draft.read a.slots
+      (all_noted (λ x. x.node.0 < nodes) a.draft.read (read_low kept nodes a is a.draft.read node giving was more memory store many holds on moves_tell moves_read moves_come_once reads_are_draft compares_tell))
+      (weaker (λ s. (page_at f s ≡ None) × (s.node.0 < node_count f) × (s.node.0 < 8) × (s.slot < max_slots)) (λ s. s.node.0 < nodes)
+      (λ s all. subst (λ k. s.node.0 < k) (sym (few_nodes kept nodes a is a.draft.read node giving was more memory store many holds on moves_tell moves_read moves_come_once reads_are_draft compares_tell)) all.1) a.slots free.0))
+
+  may_run : (in_f.entry.frozen && list_any is_change a.steps) ≡ false
+  unfolding in_f
+  may_run = may kept nodes a is a.draft.read node giving was more memory store many holds on moves_tell moves_read moves_come_once reads_are_draft compares_tell es hold was_shown subset node_low
 
   came_there : AllByRecursion (λ h. is_noted a.draft.read h.addr ≡ true → page_at f h.addr ≡ Some h.page) (comes_in a.moves)
   came_there =
@@ -229,10 +243,10 @@ module _ (moves_tell : MovesTell) (moves_read : MovesRead) (moves_come_once : Mo
 
       p : ArePlaced f.entries (page_at f) after a.moves a.draft a.slots
       p = moves_are_placed f.entries (page_at f) store (parents_of kept) a.version in_f.version a.entry a.moves a.draft a.slots
-          (shown kept nodes a is a.draft.read giving was more memory store many holds on moves_tell moves_read moves_come_once reads_are_draft compares_tell)
-          (none_new kept nodes a is a.draft.read giving was more memory store many holds on moves_tell moves_read moves_come_once reads_are_draft compares_tell)
-          (agrees kept nodes a is a.draft.read giving was more memory store many holds on moves_tell moves_read moves_come_once reads_are_draft compares_tell) in_f.found
-          (entry_of kept nodes a is a.draft.read giving was more memory store many holds on moves_tell moves_read moves_come_once reads_are_draft compares_tell es hold was_shown any)
+          (shown kept nodes a is a.draft.read node giving was more memory store many holds on moves_tell moves_read moves_come_once reads_are_draft compares_tell)
+          (none_new kept nodes a is a.draft.read node giving was more memory store many holds on moves_tell moves_read moves_come_once reads_are_draft compares_tell)
+          (agrees kept nodes a is a.draft.read node giving was more memory store many holds on moves_tell moves_read moves_come_once reads_are_draft compares_tell) in_f.found
+          (entry_of kept nodes a is a.draft.read node giving was more memory store many holds on moves_tell moves_read moves_come_once reads_are_draft compares_tell es hold was_shown node_low any)
           (ap (λ (l : List Step). a.entry.frozen && list_any is_change l) done_is ∙ is.may) is.leads came_there is.few (subst (AllByRecursion IsStep) (sym done_is) is.steps) (subst (λ (l : List Step). length l ≤ 16) (sym done_is) is.many) dn.slots.1
           (weaker (λ s. (page_at f s ≡ None) × (s.node.0 < node_count f) × (s.node.0 < 8) × (s.slot < max_slots)) IsAddr (λ s all. (all.2, all.3)) a.slots free.0)
           (free_slots (page_at f) a.slots (weaker (λ s. (page_at f s ≡ None) × (s.node.0 < node_count f) × (s.node.0 < 8) × (s.slot < max_slots)) (λ s. (page_at f s ≡ None) × (s.node.0 < 8)) (λ s all. (all.0, all.2)) a.slots free.0) free.1)
@@ -278,11 +292,13 @@ module _ (moves_tell : MovesTell) (moves_read : MovesRead) (moves_come_once : Mo
       by_any true any = settled_change any
       by_any false any = settled_quiet any
 
-  facts : Facts f store nodes a in_f.version a.draft.read settled.changed settled.new giving was now
+  facts : Facts f store nodes a in_f.version a.draft.read node settled.changed settled.new giving was now
   facts = record {
     pairs = in_f.pairs;
     told = told_all;
+    few = is.few;
     entry = entry_length a.entry is.entry;
+    least = ap (λ (l : List Addr). least_addr (a.draft.read ++ l)) (sym settled.in_slots);
     came = all_noted (λ x. (p : Page) × (came_at a.moves x ≡ Some p) × (page_at f x ≡ Some p) × IsPage p) a.draft.read (λ x noted. let c = reads.came x noted in (c.0, c.1, page x c.0 noted c.1 c.2, c.2));
     sorts = λ x noted. let c = reads.came x noted in sorted x noted c.0 c.1 c.4;
     leaves = subset;
@@ -295,9 +311,15 @@ module _ (moves_tell : MovesTell) (moves_read : MovesRead) (moves_come_once : Mo
         (subst (AllByRecursion (λ s. (page_at f s ≡ None) × (s.node.0 < node_count f) × (s.node.0 < 8) × (s.slot < max_slots))) (sym settled.in_slots) free.0)) settled.first;
     pages = settled.pages;
     ascend = settled.ascend;
+    gives = weaker (λ n. (s : Addr) × Contains a.slots s × (s.node.0 ≡ n)) (λ n. (h : Held) × Contains settled.new h × (h.addr.node.0 ≡ n)) (λ n s. held_on n s.0 s.1 s.2) giving (giving_have a.slots (range_with_len 0 (length a.counts)));
     picks = subst (λ (l : List Addr). IsPickOf (map page_place l) (map page_place a.draft.read)) (sym settled.in_order) (pick_some page_place (is_changed a.draft.overlay.changed) a.draft.read);
   }
     where
+      held_on : (n : ℕ) (s : Addr) → Contains a.slots s → s.node.0 ≡ n → (h : Held) × Contains settled.new h × (h.addr.node.0 ≡ n)
+      held_on n s has is =
+          let h = mapped_back (λ (g : Held). g.addr) settled.new s (subst (λ (l : List Addr). Contains l s) (sym settled.in_slots) has) in
+          (h.0, h.1, ap (λ (x : Addr). x.node.0) h.2 ∙ is)
+
       next_is : (seq : ℕ) → seq + 1 < 2 ^ 64 → next_number seq ≡ seq + 1
       next_is seq low = ap (λ b. if b then seq else seq + 1) (ne_eqb seq (2 ^ 64 - 1) (λ e. absurd (omega arith)))
 
@@ -310,7 +332,7 @@ module _ (moves_tell : MovesTell) (moves_read : MovesRead) (moves_come_once : Mo
           (noted_has (changed_order a.draft) x (noted_filter (is_changed a.draft.overlay.changed) a.draft.read x ∙ and_from (is_changed a.draft.overlay.changed x) (is_noted a.draft.read x) change noted)))
 
   pub done_mini : Mini
-  done_mini = mini f store nodes a in_f.version a.draft.read settled.changed settled.new giving was now
+  done_mini = mini f store nodes a in_f.version a.draft.read node settled.changed settled.new giving was now
 
   writes_are : done_writes a ≡ map held_image (settled.changed ++ settled.new) ++ counts_written a
   writes_are = ap (λ (l : List Image). l ++ counts_written a) (images_held (placed a.slots a.draft) ∙ ap (map held_image) settled.are)
@@ -321,14 +343,14 @@ module _ (moves_tell : MovesTell) (moves_read : MovesRead) (moves_come_once : Mo
       ∙ (ap (λ (l : List Item). l ++ map write_of (counts_written a)) (writes_held (settled.changed ++ settled.new) ∙ map-append write_held settled.changed settled.new)
       ∙ ap (λ (l : List Item). (map write_held settled.changed ++ map write_held settled.new) ++ l) (writes_counted now giving))
 
-  pub done_acts : ImagesAreApart (done_writes a) → PlanActs memory store holds (Tx a.name a.steps) (record { nodes = nodes; items = map compare_of (done_reads a) ++ map write_of (done_writes a) }) a.reply
-  done_acts apart =
+  pub done_acts : ImagesAreApart (done_reads a) → ImagesAreApart (done_writes a) → PlanActs memory store holds (Tx a.name a.steps) (record { nodes = nodes; items = map compare_of (done_reads a) ++ map write_of (done_writes a) }) a.reply
+  done_acts apart_reads apart =
       subst (λ (l : List Image). let m : Mini = record { nodes = nodes; items = map compare_of (done_reads a) ++ map write_of l } in PlanActs memory store holds (Tx a.name a.steps) m a.reply) (sym writes_are)
-      (acts f store nodes a in_f.version a.draft.read settled.changed settled.new giving was now facts memory holds refl (numbers_go_on memory store holds)
-      (number kept nodes a is a.draft.read giving was more memory store many holds on moves_tell moves_read moves_come_once reads_are_draft compares_tell)
+      (acts f store nodes a in_f.version a.draft.read node settled.changed settled.new giving was now facts memory holds refl (numbers_go_on memory store holds)
+      (number kept nodes a is a.draft.read node giving was more memory store many holds on moves_tell moves_read moves_come_once reads_are_draft compares_tell)
       (subst (λ (m : List (List ℕ)). Holds m (applied store (Tx a.name a.steps)).store)
       (sym (compares_pass memory (done_reads a) (map write_of (map held_image (settled.changed ++ settled.new) ++ counts_written a)) ∙ ap (memory_after memory) items_are)) settled.effect)
-      (told_all.replies ∙ sym (applied_reply f store a.name a.version.0 a.steps in_f may_run)) (subst ImagesAreApart writes_are apart))
+      (told_all.replies ∙ sym (applied_reply f store a.name a.version.0 a.steps in_f may_run)) apart_reads (subst ImagesAreApart writes_are apart))
 
 pub done_is_planned : MovesTell → MovesRead → MovesComeOnce → MovesArePlaced → QuietMoves → ReadsAreDraft → NextSlotsAreFree → WritesLeaveStore → ComparesTell → NumbersGoOn → PlansAreInOrder → DoneIsPlanned
 done_is_planned moves_tell moves_read moves_come_once moves_are_placed quiet_moves reads_are_draft next_slots_are_free writes_leave_store compares_tell numbers_go_on in_order kept t a is dn apart_reads apart_writes reads_are writes_are es was_shown = record {
@@ -336,7 +358,7 @@ done_is_planned moves_tell moves_read moves_come_once moves_are_placed quiet_mov
   acts = λ memory store many sizes holds on hold.
       subst (λ (m : Mini). PlanActs memory store holds (Tx a.name a.steps) m a.reply) (sym mini_is)
       (done_acts moves_tell moves_read moves_come_once moves_are_placed quiet_moves reads_are_draft next_slots_are_free writes_leave_store compares_tell numbers_go_on kept t.nodes a is dn memory store many holds on (map write_of (in_item_order t.writes)) es
-      (subst (λ (rs : List Image). ComparesHold es memory (map compare_of rs ++ map write_of (in_item_order t.writes))) reads_are hold) (subst (ReadsAreShown es) reads_are (shown_in_order es t.reads was_shown)) (subst ImagesAreApart writes_are (apart_in_order t.writes apart_writes)));
+      (subst (λ (rs : List Image). ComparesHold es memory (map compare_of rs ++ map write_of (in_item_order t.writes))) reads_are hold) (subst (ReadsAreShown es) reads_are (shown_in_order es t.reads was_shown)) (subst ImagesAreApart reads_are (apart_in_order t.reads apart_reads)) (subst ImagesAreApart writes_are (apart_in_order t.writes apart_writes)));
   order = in_order t apart_reads apart_writes;
   kind = tt;
 }

@@ -11,6 +11,7 @@ use Rattle.std.proofs.lemmas.List.FromFn.{length-range_with_len}
 use Rattle.mn_base.specs.Store.{Head, is_change, is_unmet, value_at, step_key, noted_by}
 use Rattle.mn_base.specs.Tree.{parents_of}
 use Rattle.mn_base.specs.declared.ids.Addr.{Addr}
+use Rattle.mn_base.specs.declared.ids.NodeNo.{NodeNo}
 use Rattle.mn_base.specs.declared.ids.VersionNo.{VersionNo}
 use Rattle.mn_base.specs.declared.op.Step.{Step}
 use Rattle.mn_base.specs.declared.reply.Reply.{Reply}
@@ -38,12 +39,12 @@ use Rattle.mn_txn.specs.State.{State}
 use Rattle.mn_txn.specs.Order.{stands_before, in_item_order}
 use Rattle.mn_txn.specs.Order as order
 use Rattle.mn_txn.specs.Plan.{is_inside, are_inside, can_plan}
-use Rattle.mn_txn.specs.Attempt.{Attempt, IsAttempt, page_image, came_images, entry_images, count_image, counts_read}
+use Rattle.mn_txn.specs.Attempt.{Attempt, IsAttempt, least_addr, page_image, came_images, entry_images, count_image, counts_read}
 use Rattle.mn_txn.specs.Attempt.{counts_written, done_reads, done_writes, unmet_reads}
 use Rattle.mn_txn.specs.Tries.{DoneMayBePlanned, UnmetMayBePlanned}
 use Rattle.mn_txn.proofs.Sound.{length_in_order}
 use Rattle.mn_txn.proofs.Lists.{all_noted, all_mapped}
-use Rattle.mn_txn.proofs.Known.{came_of}
+use Rattle.mn_txn.proofs.Known.{came_of, least_low}
 use Rattle.mn_txn.proofs.Attempts.{held_image}
 use Rattle.mn_txn.proofs.Worn.{writes_are}
 
@@ -156,11 +157,11 @@ came_some moves (y ∷ addrs) x noted all =
     let c = all.0 in
     subst (λ (o : Option Page). 1 ≤ length (option_to_list (option_map (page_image y) o) ++ came_images moves addrs)) (sym c.1) (omega arith)
 
-entry_few : (a : Attempt) → length (entry_images a) ≤ 1
-entry_few a = by_any (list_any is_change a.steps)
+entry_few : (node : NodeNo) (a : Attempt) → length (entry_images node a) ≤ 1
+entry_few node a = by_any (list_any is_change a.steps)
   where
     image_of : Image
-    image_of = record { node = record { 0 = 0 }; start = 64 + 64 * a.version.0; bytes = entry_bytes a.entry }
+    image_of = record { node = node; start = 64 + 64 * a.version.0; bytes = entry_bytes a.entry }
 
     by_any : (t : Bool) → length (if t then image_of ∷ [] else []) ≤ 1
     by_any true = omega arith
@@ -241,20 +242,23 @@ module _ (moves_read : MovesRead) (moves_are_few : MovesAreFew) (moves_touch_lea
   some_node : 0 < nodes
   some_node = let low = (came_in leaf.0 leaf_read).3 in omega arith
 
-  entry_inside : AllByRecursion (IsIn nodes) (entry_images a)
-  entry_inside = by_any (list_any is_change a.steps)
+  entry_inside : (node : NodeNo) → node.0 < nodes → AllByRecursion (IsIn nodes) (entry_images node a)
+  entry_inside node there = by_any (list_any is_change a.steps)
     where
       image_of : Image
-      image_of = record { node = record { 0 = 0 }; start = 64 + 64 * a.version.0; bytes = entry_bytes a.entry }
+      image_of = record { node = node; start = 64 + 64 * a.version.0; bytes = entry_bytes a.entry }
 
       by_any : (t : Bool) → AllByRecursion (IsIn nodes) (if t then image_of ∷ [] else [])
-      by_any true = let low = is.few in (in_space nodes image_of 64 (entry_length a.entry is.entry) few some_node (omega arith) (omega arith) (omega arith), tt)
+      by_any true = let low = is.few in (in_space nodes image_of 64 (entry_length a.entry is.entry) few there (omega arith) (omega arith) (omega arith), tt)
       by_any false = tt
 
   -- the read set by these addresses
   module _ (addrs : List Addr) (subset : (x : Addr) → is_noted addrs x ≡ true → is_noted a.draft.read x ≡ true) where
     all_in : AllByRecursion CameIn addrs
     all_in = all_noted CameIn addrs (λ x noted. came_in x (subset x noted))
+
+    nodes_low : AllByRecursion (λ x. x.node.0 < nodes) addrs
+    nodes_low = weaker CameIn (λ x. x.node.0 < nodes) (λ x c. c.3) addrs all_in
 
     images_in : AllByRecursion (IsIn nodes) (came_images a.moves addrs)
     images_in = came_inside addrs all_in
@@ -266,6 +270,16 @@ module _ (moves_read : MovesRead) (moves_are_few : MovesAreFew) (moves_touch_lea
     put : ArePut a.draft a.slots
     put = placed_are_put (parents_of kept) a.version a.entry.root a.moves a.draft a.slots is.leads long
 
+    -- the node of the entry
+    abbrev node : NodeNo
+    node = least_addr (a.draft.read ++ a.slots)
+
+    node_low : node.0 < nodes
+    node_low =
+        least_low nodes (a.draft.read ++ a.slots) some_node
+        (all_append (λ x. x.node.0 < nodes) a.draft.read a.slots (nodes_low a.draft.read (λ x e. e))
+        (weaker (λ s. (s.node.0 < length a.counts) × (s.slot < max_slots)) (λ s. s.node.0 < nodes) (λ s low. subst (λ k. s.node.0 < k) counted low.0) a.slots (next_low a.counts a.slots next)))
+
     abbrev giving : List ℕ
     giving = giving_nodes a.counts a.slots
 
@@ -274,8 +288,8 @@ module _ (moves_read : MovesRead) (moves_are_few : MovesAreFew) (moves_touch_lea
 
     reads_in : AllByRecursion (IsIn nodes) (done_reads a)
     reads_in =
-        all_append (IsIn nodes) (came_images a.moves a.draft.read) (entry_images a ++ counts_read a) (images_in a.draft.read (λ x e. e))
-        (all_append (IsIn nodes) (entry_images a) (counts_read a) entry_inside (counts_in (λ n. slice_index_or a.counts n 0)))
+        all_append (IsIn nodes) (came_images a.moves a.draft.read) (entry_images node a ++ counts_read a) (images_in a.draft.read (λ x e. e))
+        (all_append (IsIn nodes) (entry_images node a) (counts_read a) (entry_inside node node_low) (counts_in (λ n. slice_index_or a.counts n 0)))
 
     -- where the pages of the plan stand
     abbrev StandsIn : Addr → Type 0
@@ -308,11 +322,11 @@ module _ (moves_read : MovesRead) (moves_are_few : MovesAreFew) (moves_touch_lea
     reads_few : length (done_reads a) ≤ 250
     reads_few =
         let one = came_few a.moves a.draft.read in
-        let two = entry_few a in
+        let two = entry_few node a in
         let three = giving_few a.counts a.slots in
         let c = length-map giving (λ n. count_image n (slice_index_or a.counts n 0)) in
-        let e = length-append (came_images a.moves a.draft.read) (entry_images a ++ counts_read a) in
-        let f = length-append (entry_images a) (counts_read a) in
+        let e = length-append (came_images a.moves a.draft.read) (entry_images node a ++ counts_read a) in
+        let f = length-append (entry_images node a) (counts_read a) in
         let l = limits.0 in omega arith
 
     writes_few : length (done_writes a) ≤ 767
@@ -330,7 +344,7 @@ module _ (moves_read : MovesRead) (moves_are_few : MovesAreFew) (moves_touch_lea
         let m = limits.1 in omega (arith, i, j, k)
 
     reads_some : 1 ≤ length (done_reads a)
-    reads_some = let one = images_some a.draft.read (λ x e. e) leaf.0 leaf_read in let e = length-append (came_images a.moves a.draft.read) (entry_images a ++ counts_read a) in omega arith
+    reads_some = let one = images_some a.draft.read (λ x e. e) leaf.0 leaf_read in let e = length-append (came_images a.moves a.draft.read) (entry_images node a ++ counts_read a) in omega arith
 
 pub done_may_be_planned : MovesRead → MovesAreFew → MovesTouchLeaves → PlacedArePut
     → PlacedFillSlots → DoneMayBePlanned
@@ -358,7 +372,7 @@ pub unmet_may_be_planned : MovesRead → MovesAreFew → MovesTouchLeaves → Un
 unmet_may_be_planned moves_read moves_are_few moves_touch_leaves kept t a is steps few reads_are none =
     test_passes t (omega (arith, r, some, e)) (omega (arith, r, w, e, one, two, l, k))
     (order_back (IsIn t.nodes) t.reads (subst (AllByRecursion (IsIn t.nodes)) (sym reads_are)
-    (all_append (IsIn t.nodes) (came_images a.moves addrs) (entry_images a) (images_in moves_read moves_are_few moves_touch_leaves kept t.nodes a is steps few addrs subset) (entry_inside moves_read moves_are_few moves_touch_leaves kept t.nodes a is steps few))))
+    (all_append (IsIn t.nodes) (came_images a.moves addrs) (entry_images node a) (images_in moves_read moves_are_few moves_touch_leaves kept t.nodes a is steps few addrs subset) (entry_inside moves_read moves_are_few moves_touch_leaves kept t.nodes a is steps few node node_low))))
     (subst (AllByRecursion (IsIn t.nodes)) (sym none) tt)
   where
     addrs : List Addr
@@ -367,14 +381,22 @@ unmet_may_be_planned moves_read moves_are_few moves_touch_leaves kept t a is ste
     subset : (x : Addr) → is_noted addrs x ≡ true → is_noted a.draft.read x ≡ true
     subset x noted = (and_parts (is_leaf_at a.moves x) (is_noted a.draft.read x) (sym (noted_filter (is_leaf_at a.moves) a.draft.read x) ∙ noted)).1
 
+    node : NodeNo
+    node = least_addr addrs
+
+    node_low : node.0 < t.nodes
+    node_low =
+        least_low t.nodes addrs (some_node moves_read moves_are_few moves_touch_leaves kept t.nodes a is steps few)
+        (nodes_low moves_read moves_are_few moves_touch_leaves kept t.nodes a is steps few addrs subset)
+
     r : length t.reads ≡ length (unmet_reads a)
     r = sym (length_in_order t.reads) ∙ ap (λ (l : List Image). length l) reads_are
 
     w : length t.writes ≡ 0
     w = ap (λ (l : List Image). length l) none
 
-    e : length (unmet_reads a) ≡ length (came_images a.moves addrs) + length (entry_images a)
-    e = length-append (came_images a.moves addrs) (entry_images a)
+    e : length (unmet_reads a) ≡ length (came_images a.moves addrs) + length (entry_images node a)
+    e = length-append (came_images a.moves addrs) (entry_images node a)
 
     some : 1 ≤ length (came_images a.moves addrs)
     some =
@@ -384,8 +406,8 @@ unmet_may_be_planned moves_read moves_are_few moves_touch_leaves kept t a is ste
     one : length (came_images a.moves addrs) ≤ length addrs
     one = came_few a.moves addrs
 
-    two : length (entry_images a) ≤ 1
-    two = entry_few a
+    two : length (entry_images node a) ≤ 1
+    two = entry_few node a
 
     l : length a.draft.read ≤ 241
     l = (limits moves_read moves_are_few moves_touch_leaves kept t.nodes a is steps few).0

@@ -3,7 +3,7 @@ use Rattle.std.proofs.Common.{◌≡◌, inl, inr, ℕ, zero, suc, ◌+◌, ◌*
 use Rattle.std.specs.Prelude.{filter, nat_eq}
 use Rattle.std.specs.List.{AllByRecursion, list_any, range_with_len}
 use Rattle.std.specs.Option.{option_map, option_to_list}
-use Rattle.std.proofs.lemmas.Bool.{eqb-true, ne_eqb, cases_eq, and_parts}
+use Rattle.std.proofs.lemmas.Bool.{eq-eqb, eqb-true, ne_eqb, cases_eq, and_parts}
 use Rattle.std.proofs.lemmas.List.{length-map, length-set}
 use Rattle.std.proofs.lemmas.List.FromFn.{length-range_with_len}
 use Rattle.std.proofs.lemmas.List.Elements.{Contains-append_left, Contains-append_right}
@@ -11,6 +11,7 @@ use Rattle.mn_base.specs.Ids.{addr_same}
 use Rattle.mn_base.specs.Store.{Store, Head, heads_of, is_change, number_named}
 use Rattle.mn_base.specs.Tree.{parents_of, serves}
 use Rattle.mn_base.specs.declared.ids.Addr.{Addr}
+use Rattle.mn_base.specs.declared.ids.NodeNo.{NodeNo}
 use Rattle.mn_mini.specs.declared.item.Item.{Item}
 use Rattle.mn_page.specs.declared.page.Page.{Page}
 use Rattle.mn_page.specs.declared.entry.CatEntry.{CatEntry}
@@ -36,11 +37,12 @@ use Rattle.mn_plans.proofs.Told.{all_there}
 use Rattle.mn_plans.specs.Growth.{AreNextSlots, taken_on, giving_nodes, node_no, count_in, AreMet, ComparesTell}
 use Rattle.mn_plans.proofs.Compares.{still_named, number_within}
 use Rattle.mn_plans.proofs.Kept.{serves_kept}
+use Rattle.mn_plans.proofs.Least.{least_all}
 use Rattle.mn_txn.specs.declared.image.Image.{Image}
 use Rattle.mn_txn.specs.Plan.{compare_of}
 use Rattle.mn_txn.specs.Laws.{image_place, ReadsAreShown}
-use Rattle.mn_txn.specs.Attempt.{Attempt, IsAttempt, page_image, came_images, entry_images, count_image}
-use Rattle.mn_txn.proofs.Lists.{contains_map, all_noted}
+use Rattle.mn_txn.specs.Attempt.{Attempt, IsAttempt, least_addr, page_image, came_images, entry_images, count_image}
+use Rattle.mn_txn.proofs.Lists.{contains_map, all_mapped, all_noted}
 use Rattle.mn_txn.proofs.Found.{InStore, in_store}
 
 -- Images that are there
@@ -87,6 +89,10 @@ contains_range a (suc k) n low high = elim (cases_eq a n) as (λ _. Contains (a 
   | inr off ↦ let c = contains_range (a + 1) k n (omega (arith, off)) (omega arith) in (suc c.0, (let l = c.1 in omega arith), c.2)
 ]
 
+-- the least node of addresses on these nodes is one of them
+pub least_low : (nodes : ℕ) (addrs : List Addr) → 0 < nodes → AllByRecursion (λ x. x.node.0 < nodes) addrs → (least_addr addrs).0 < nodes
+least_low nodes addrs some all = least_all (λ n. n < nodes) (map (λ (x : Addr). x.node.0) addrs) (all_mapped (λ n. n < nodes) (λ (x : Addr). x.node.0) addrs all) 0 some
+
 -- What a list has shown of them
 
 abbrev OneShown : List Entry → Image → Type 0
@@ -98,11 +104,11 @@ page_shown es images x p shown spelled has =
     let last = (one (λ e. absurd (omega (arith, e)))).1 in
     subst (λ (n : ℕ). ShowsLast es (record { node = x.node; start = 20480 + 1024 * x.slot; length = n }) (take 8 (page_bytes p)) (page_bytes p)) (page_length p spelled) last
 
-pub entry_shown : (es : List Entry) (images : List Image) (v : ℕ) (e : CatEntry) → ReadsAreShown es images → IsEntry e → Contains images (record { node = node_no 0; start = 64 + 64 * v; bytes = entry_bytes e }) → ShowsEntry es v e
-entry_shown es images v e shown spelled has =
-    let one : OneShown es (record { node = node_no 0; start = 64 + 64 * v; bytes = entry_bytes e }) = all_there (OneShown es) images (record { node = node_no 0; start = 64 + 64 * v; bytes = entry_bytes e }) shown has in
+pub entry_shown : (es : List Entry) (images : List Image) (node : NodeNo) (v : ℕ) (e : CatEntry) → ReadsAreShown es images → IsEntry e → Contains images (record { node = node; start = 64 + 64 * v; bytes = entry_bytes e }) → ShowsEntry es node v e
+entry_shown es images node v e shown spelled has =
+    let one : OneShown es (record { node = node; start = 64 + 64 * v; bytes = entry_bytes e }) = all_there (OneShown es) images (record { node = node; start = 64 + 64 * v; bytes = entry_bytes e }) shown has in
     let last = (one (λ g. absurd (omega (arith, g)))).1 in
-    subst (λ (n : ℕ). ShowsLast es (record { node = node_no 0; start = 64 + 64 * v; length = n }) (take 8 (entry_bytes e)) (entry_bytes e)) (entry_length e spelled) last
+    subst (λ (n : ℕ). ShowsLast es (record { node = node; start = 64 + 64 * v; length = n }) (take 8 (entry_bytes e)) (entry_bytes e)) (entry_length e spelled) last
 
 -- The forest
 
@@ -112,13 +118,13 @@ nodes_are memory store holds =
     ∙ (length-map (range_with_len 0 (node_count holds.forest)) (space_laid (laid_of holds.forest)) ∙ length-range_with_len 0 (node_count holds.forest))
 
 -- a try in a memory in which its compares are met
-module _ (kept : List Head) (nodes : ℕ) (a : Attempt) (is : IsAttempt kept nodes a) (addrs : List Addr) (giving : List ℕ) (was : ℕ → ℕ) (more : List Item) (memory : List (List ℕ)) (store : Store) (many : length memory ≡ nodes) (holds : Holds memory store) (on : ContinuesCatalog kept (heads_of store))
+module _ (kept : List Head) (nodes : ℕ) (a : Attempt) (is : IsAttempt kept nodes a) (addrs : List Addr) (node : NodeNo) (giving : List ℕ) (was : ℕ → ℕ) (more : List Item) (memory : List (List ℕ)) (store : Store) (many : length memory ≡ nodes) (holds : Holds memory store) (on : ContinuesCatalog kept (heads_of store))
     (moves_tell : MovesTell) (moves_read : MovesRead) (moves_come_once : MovesComeOnce) (reads_are_draft : ReadsAreDraft) (compares_tell : ComparesTell) where
   abbrev f : Forest
   f = holds.forest
 
   abbrev pub compared : List Image
-  compared = came_images a.moves addrs ++ (entry_images a ++ map (λ n. count_image n (was n)) giving)
+  compared = came_images a.moves addrs ++ (entry_images node a ++ map (λ n. count_image n (was n)) giving)
 
   pub number : number_named (heads_of store) a.name ≡ Some a.version.0
   number = still_named kept (heads_of store) a.name a.version.0 on is.named
@@ -144,6 +150,13 @@ module _ (kept : List Head) (nodes : ℕ) (a : Attempt) (is : IsAttempt kept nod
   pub few_nodes : nodes ≡ node_count f
   few_nodes = sym many ∙ nodes_are memory store holds
 
+  pub some_node : 0 < nodes
+  some_node = let some = holds.sound.laid.nodes.0 in let e = few_nodes in omega (arith, some, e)
+
+  -- pages of the read set stand on the nodes
+  pub read_low : (x : Addr) → is_noted a.draft.read x ≡ true → x.node.0 < nodes
+  read_low x noted = let c = read.came x noted in came_of (λ h. h.addr.node.0 < nodes) (comes_in a.moves) x c.0 is.within c.1
+
   module _ (es : List Entry) (hold : ComparesHold es memory (map compare_of compared ++ more)) (was_shown : ReadsAreShown es compared) where
     tells : AreMet es f (map compare_of compared ++ more)
     tells = compares_tell es memory store holds (map compare_of compared ++ more) hold
@@ -152,15 +165,15 @@ module _ (kept : List Head) (nodes : ℕ) (a : Attempt) (is : IsAttempt kept nod
     has i c = Contains-append_left (map compare_of compared) more (compare_of i) (contains_map compare_of compared i c)
 
     at_page : (x : Addr) (p : Page) → is_noted addrs x ≡ true → came_at a.moves x ≡ Some p → Contains compared (page_image x p)
-    at_page x p noted came = Contains-append_left (came_images a.moves addrs) (entry_images a ++ map (λ n. count_image n (was n)) giving) (page_image x p) (came_has a.moves addrs x p noted came)
+    at_page x p noted came = Contains-append_left (came_images a.moves addrs) (entry_images node a ++ map (λ n. count_image n (was n)) giving) (page_image x p) (came_has a.moves addrs x p noted came)
 
-    at_entry : list_any is_change a.steps ≡ true → Contains compared (record { node = node_no 0; start = 64 + 64 * a.version.0; bytes = entry_bytes a.entry })
+    at_entry : list_any is_change a.steps ≡ true → Contains compared (record { node = node; start = 64 + 64 * a.version.0; bytes = entry_bytes a.entry })
     at_entry any =
-        Contains-append_right (came_images a.moves addrs) (entry_images a ++ map (λ n. count_image n (was n)) giving) (image_of a) (Contains-append_left (entry_images a) (map (λ n. count_image n (was n)) giving) (image_of a)
+        Contains-append_right (came_images a.moves addrs) (entry_images node a ++ map (λ n. count_image n (was n)) giving) (image_of a) (Contains-append_left (entry_images node a) (map (λ n. count_image n (was n)) giving) (image_of a)
         (subst (λ t. Contains (if t then image_of a ∷ [] else []) (image_of a)) (sym any) (0, omega arith, refl)))
       where
         image_of : Attempt → Image
-        image_of b = record { node = node_no 0; start = 64 + 64 * b.version.0; bytes = entry_bytes b.entry }
+        image_of b = record { node = node; start = 64 + 64 * b.version.0; bytes = entry_bytes b.entry }
 
     -- a page that was compared
     pub page_of : (x : Addr) (p : Page) → is_noted addrs x ≡ true → came_at a.moves x ≡ Some p → IsPage p → page_at f x ≡ Some p
@@ -169,15 +182,15 @@ module _ (kept : List Head) (nodes : ℕ) (a : Attempt) (is : IsAttempt kept nod
         (subst (λ k. x.node.0 < k) few_nodes (came_of (λ h. h.addr.node.0 < nodes) (comes_in a.moves) x p is.within came)) spelled
 
     -- the version's entry
-    pub entry_of : list_any is_change a.steps ≡ true → slice_get f.entries a.version.0 ≡ Some a.entry
-    entry_of any =
-        tells.entries a.version.0 a.entry (has _ (at_entry any)) (entry_shown es compared a.version.0 a.entry was_shown is.entry (at_entry any)) is.few is.entry
+    pub entry_of : node.0 < nodes → list_any is_change a.steps ≡ true → slice_get f.entries a.version.0 ≡ Some a.entry
+    entry_of there any =
+        tells.entries node a.version.0 a.entry (has _ (at_entry any)) (entry_shown es compared node a.version.0 a.entry was_shown is.entry (at_entry any)) (subst (λ k. node.0 < k) few_nodes there) is.few is.entry
 
     pub count_of : (n : ℕ) → Contains giving n → n < nodes → was n < 2 ^ 64 → was n ≡ count_in f n
     count_of n gives low small =
         tells.counts (node_no n) (was n)
-        (has (count_image n (was n)) (Contains-append_right (came_images a.moves addrs) (entry_images a ++ map (λ m. count_image m (was m)) giving) (count_image n (was n))
-        (Contains-append_right (entry_images a) (map (λ m. count_image m (was m)) giving) (count_image n (was n)) (contains_map (λ m. count_image m (was m)) giving n gives))))
+        (has (count_image n (was n)) (Contains-append_right (came_images a.moves addrs) (entry_images node a ++ map (λ m. count_image m (was m)) giving) (count_image n (was n))
+        (Contains-append_right (entry_images node a) (map (λ m. count_image m (was m)) giving) (count_image n (was n)) (contains_map (λ m. count_image m (was m)) giving n gives))))
         (subst (λ k. n < k) few_nodes low) small
 
     -- the leaves of the read set are among those compared
@@ -194,8 +207,8 @@ module _ (kept : List Head) (nodes : ℕ) (a : Attempt) (is : IsAttempt kept nod
           (all_noted (λ x. page_at f x ≡ came_at a.moves x) (leaves_at a.moves a.draft.read) leaf_stands)
 
       -- the transaction isn't refused
-      pub may : (version.entry.frozen && list_any is_change a.steps) ≡ false
-      may = by_any (list_any is_change a.steps) refl
+      pub may : node.0 < nodes → (version.entry.frozen && list_any is_change a.steps) ≡ false
+      may there = by_any (list_any is_change a.steps) refl
         where
           none : (b : Bool) → (b && false) ≡ false
           none true = refl
@@ -205,7 +218,7 @@ module _ (kept : List Head) (nodes : ℕ) (a : Attempt) (is : IsAttempt kept nod
           entry_same d e s = cc
 
           by_any : (t : Bool) → list_any is_change a.steps ≡ t → (version.entry.frozen && list_any is_change a.steps) ≡ false
-          by_any true any = ap (λ (e : CatEntry). e.frozen && list_any is_change a.steps) (entry_same version.entry a.entry (sym version.there ∙ entry_of any)) ∙ is.may
+          by_any true any = ap (λ (e : CatEntry). e.frozen && list_any is_change a.steps) (entry_same version.entry a.entry (sym version.there ∙ entry_of there any)) ∙ is.may
           by_any false any = ap (λ b. version.entry.frozen && b) any ∙ none version.entry.frozen
 
 -- Counts
@@ -218,6 +231,33 @@ taken_low counts (s ∷ slots) n next some = by_same (nat_eq s.node.0 n) refl so
     by_same : (t : Bool) → nat_eq s.node.0 n ≡ t → ((if t then taken_on slots n + 1 else taken_on slots n) ≡ 0 → ⊥) → ((taken_on slots n ≡ 0 → ⊥) → n < length counts) → n < length counts
     by_same true e some' rest = let same = eqb-true s.node.0 n e in let low = next.0 in omega arith
     by_same false e some' rest = rest some'
+
+-- one of its slots
+taken_has : (slots : List Addr) (n : ℕ) → (taken_on slots n ≡ 0 → ⊥) → (s : Addr) × Contains slots s × (s.node.0 ≡ n)
+taken_has [] n some = absurd (some refl)
+taken_has (s ∷ slots) n some = by_same (nat_eq s.node.0 n) refl some (taken_has slots n)
+  where
+    by_same : (t : Bool) → nat_eq s.node.0 n ≡ t → ((if t then taken_on slots n + 1 else taken_on slots n) ≡ 0 → ⊥) → ((taken_on slots n ≡ 0 → ⊥) → (r : Addr) × Contains slots r × (r.node.0 ≡ n)) → (r : Addr) × Contains (s ∷ slots) r × (r.node.0 ≡ n)
+    by_same true e more rest = (s, (0, omega arith, refl), eqb-true s.node.0 n e)
+    by_same false e more rest = let r = rest more in let c = r.1 in (r.0, (suc c.0, (let l = c.1 in omega arith), c.2), r.2)
+
+-- each node that gives slots has one of them
+pub giving_have : (slots : List Addr) (ns : List ℕ) → AllByRecursion (λ n. (s : Addr) × Contains slots s × (s.node.0 ≡ n)) (filter (λ n. not (nat_eq (taken_on slots n) 0)) ns)
+giving_have slots [] = tt
+giving_have slots (n ∷ ns) = by_none (nat_eq (taken_on slots n) 0) refl (giving_have slots ns)
+  where
+    Have : List ℕ → Type 0
+    Have ms = AllByRecursion (λ m. (s : Addr) × Contains slots s × (s.node.0 ≡ m)) ms
+
+    others : List ℕ
+    others = filter (λ m. not (nat_eq (taken_on slots m) 0)) ns
+
+    clash : (b : Bool) → b ≡ true → b ≡ false → ⊥
+    clash b on off = absurd cc
+
+    by_none : (b : Bool) → nat_eq (taken_on slots n) 0 ≡ b → Have others → Have (if not b then n ∷ others else others)
+    by_none true e rest = rest
+    by_none false e rest = (taken_has slots n (λ none. clash (nat_eq (taken_on slots n) 0) (eq-eqb (taken_on slots n) 0 none) e), rest)
 
 pub gives : (counts : List ℕ) (slots : List Addr) (n : ℕ) → n < length counts → (taken_on slots n ≡ 0 → ⊥) → Contains (giving_nodes counts slots) n
 gives counts slots n low some = contains_filter (λ m. not (nat_eq (taken_on slots m) 0)) (range_with_len 0 (length counts)) n (contains_range 0 (length counts) n (omega arith) (omega arith)) (ap not (ne_eqb (taken_on slots n) 0 some))

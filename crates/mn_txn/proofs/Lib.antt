@@ -9,6 +9,10 @@ mod Known
 mod Done
 mod Unmet
 mod Children
+mod Apart
+mod Least
+mod Late
+mod EachNode
 mod ChildOrder
 mod ChildPlan
 mod ChildTxn

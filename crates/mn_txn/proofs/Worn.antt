@@ -32,7 +32,7 @@ use Rattle.mn_txn.specs.declared.image.Image.{Image}
 use Rattle.mn_txn.specs.State.{State, is_at, bytes_at, ImagesAreApart}
 use Rattle.mn_txn.specs.Order.{in_item_order}
 use Rattle.mn_txn.specs.Plan.{is_last, is_last_read, is_worn, first_worn}
-use Rattle.mn_txn.specs.Attempt.{Attempt, IsAttempt, page_image, came_images, entry_images, count_image}
+use Rattle.mn_txn.specs.Attempt.{Attempt, IsAttempt, least_addr, page_image, came_images, entry_images, count_image}
 use Rattle.mn_txn.specs.Attempt.{counts_read, counts_written, done_writes}
 use Rattle.mn_txn.specs.Tries.{IsFor, PlannedIsDone, IsWornPage, IsReadSlot, WornIsChanged}
 use Rattle.mn_txn.proofs.Images.{turned, worn_read}
@@ -150,7 +150,7 @@ module _ (moves_read : MovesRead) (placed_are_put : PlacedArePut) (kept : List H
       → bytes_at addr.node (20480 + 1024 * addr.slot) t.reads ≡ Some (page_bytes page)
   read_as addr page noted came =
       at_read t.reads (page_image addr page) for.apart (in_order_back t.reads (page_image addr page) (subst (λ (l : List Image). Contains l (page_image addr page)) (sym for.reads)
-      (Contains-append_left (came_images a.moves a.draft.read) (entry_images a ++ counts_read a) (page_image addr page) (came_has a.moves a.draft.read addr page noted came))))
+      (Contains-append_left (came_images a.moves a.draft.read) (entry_images (least_addr (a.draft.read ++ a.slots)) a ++ counts_read a) (page_image addr page) (came_has a.moves a.draft.read addr page noted came))))
 
   -- and so a changed one is worn just where it had the last number
   worn_as : (h : Held) (page : Page) → is_noted a.draft.read h.addr ≡ true

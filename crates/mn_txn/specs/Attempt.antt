@@ -1,12 +1,13 @@
 -- A try of a transaction, and what it reads and writes. When that is planned.
 use Rattle.std.specs.Prelude.{ℕ, ◌≡◌, ◌+◌, ◌^◌, ◌<◌, ◌≤◌, ◌&&◌, true, false, List, [], ◌∷◌, ◌++◌}
-use Rattle.std.specs.Prelude.{length, map, Option, Some, if◌then◌else◌, slice_index_or}
+use Rattle.std.specs.Prelude.{length, map, Option, Some, if◌then◌else◌, slice_index_or, unwrap_or}
 use Rattle.std.specs.List.{AllByRecursion, flat_map, list_any}
 use Rattle.std.specs.Option.{option_map, option_to_list}
 use Rattle.byteorder.specs.Endian.{big_bytes}
 use Rattle.mn_base.specs.Store.{Head, number_named, is_change, max_versions}
 use Rattle.mn_base.specs.Tree.{parents_of}
 use Rattle.mn_base.specs.declared.ids.Addr.{Addr}
+use Rattle.mn_base.specs.declared.ids.NodeNo.{NodeNo}
 use Rattle.mn_base.specs.declared.ids.VersionNo.{VersionNo}
 use Rattle.mn_base.specs.declared.op.Step.{Step}
 use Rattle.mn_base.specs.declared.op.Op.TheVariants.{Tx}
@@ -22,7 +23,7 @@ use Rattle.mn_tree.specs.Order.{placed}
 use Rattle.mn_tree.specs.Moves.{Move, LeadsTo, comes_in, AreAnswered, came_at, leaves_at}
 use Rattle.mn_tree.specs.MoveLaws.{IsStep}
 use Rattle.mn_runs.specs.declared.entry.Entry.{Entry}
-use Rattle.mn_law.specs.Planned.{IsPlanned}
+use Rattle.mn_law.specs.Planned.{IsPlanned, least_of}
 use Rattle.mn_plans.specs.Growth.{AreNextSlots, taken_on, giving_nodes, node_no}
 use Rattle.mn_txn.specs.declared.image.Image.{Image}
 use Rattle.mn_txn.specs.State.{State, image, ImagesAreApart}
@@ -83,11 +84,15 @@ abbrev pub came_images : List Move → List Addr → List Image
 came_images moves addrs =
     flat_map (λ addr. option_to_list (option_map (page_image addr) (came_at moves addr))) addrs
 
--- the version's entry, where a step is a Put or a Del
-abbrev pub entry_images : Attempt → List Image
-entry_images a =
+-- the version's entry on this node, where a step is a Put or a Del
+abbrev pub entry_images : NodeNo → Attempt → List Image
+entry_images n a =
     if list_any is_change a.steps
-    then image (node_no 0) (entry_start a.version.0) (entry_bytes a.entry) ∷ [] else []
+    then image n (entry_start a.version.0) (entry_bytes a.entry) ∷ [] else []
+
+-- the least node of these addresses, or node 0 where there are none
+abbrev pub least_addr : List Addr → NodeNo
+least_addr addrs = node_no (unwrap_or (least_of (map (λ addr. addr.node.0) addrs)) 0)
 
 abbrev pub count_image : ℕ → ℕ → Image
 count_image n count = image (node_no n) count_start (big_bytes count_size count)
@@ -102,16 +107,21 @@ counts_written a =
     map (λ n. count_image n (slice_index_or a.counts n 0 + taken_on a.slots n))
     (giving_nodes a.counts a.slots)
 
--- what is compared where all Checks are met, and what is written
+-- what is compared where all Checks are met, the entry on the least node of the pages that are read
+-- and of the slots, and what is written
 abbrev pub done_reads : Attempt → List Image
-done_reads a = came_images a.moves a.draft.read ++ (entry_images a ++ counts_read a)
+done_reads a =
+    came_images a.moves a.draft.read
+    ++ (entry_images (least_addr (a.draft.read ++ a.slots)) a ++ counts_read a)
 
 abbrev pub done_writes : Attempt → List Image
 done_writes a = map (λ h. page_image h.0 h.1) (placed a.slots a.draft) ++ counts_written a
 
--- what is compared where a Check is unmet: leaves, and the entry
+-- what is compared where a Check is unmet: leaves, and the entry on the least node of them
 abbrev pub unmet_reads : Attempt → List Image
-unmet_reads a = came_images a.moves (leaves_at a.moves a.draft.read) ++ entry_images a
+unmet_reads a =
+    came_images a.moves (leaves_at a.moves a.draft.read)
+    ++ entry_images (least_addr (leaves_at a.moves a.draft.read)) a
 
 -- Planned
 

@@ -2,10 +2,11 @@
 -- none.
 use Rattle.std.specs.Prelude.{ℕ, ◌≡◌, ◌+◌, ◌≤◌, ◌⊎◌, ◌||◌, Bool, not, nat_eq, List, []}
 use Rattle.std.specs.Prelude.{◌∷◌, ◌++◌, length, map, Option, Some, None, ⊤, if◌then◌else◌}
-use Rattle.std.specs.Prelude.{slice_index_or}
+use Rattle.std.specs.Prelude.{slice_index_or, unwrap_or}
 use Rattle.std.specs.List.{AllByRecursion, flat_map, list_any, range_with_len}
 use Rattle.mn_base.specs.Store.{Head, is_change}
 use Rattle.mn_base.specs.declared.ids.Addr.{Addr}
+use Rattle.mn_base.specs.declared.ids.NodeNo.{NodeNo}
 use Rattle.mn_base.specs.declared.ids.VersionNo.{VersionNo}
 use Rattle.mn_base.specs.declared.op.Op.TheVariants.{Tx}
 use Rattle.mn_base.specs.declared.op.Step.{Step}
@@ -17,8 +18,8 @@ use Rattle.mn_page.specs.Grammar.{count_in}
 use Rattle.mn_tree.specs.Order.{placed}
 use Rattle.mn_tree.specs.Moves.{comes_in}
 use Rattle.mn_runs.specs.declared.entry.Entry.{Entry}
-use Rattle.mn_law.specs.Planned.{IsPlanned}
-use Rattle.mn_plans.specs.Growth.{AreNextSlots, taken_on}
+use Rattle.mn_law.specs.Planned.{IsPlanned, least_of}
+use Rattle.mn_plans.specs.Growth.{AreNextSlots, node_no, taken_on}
 use Rattle.mn_txn.specs.declared.attempt.Tried.{Tried}
 use Rattle.mn_txn.specs.declared.attempt.Placing.{Placing}
 use Rattle.mn_txn.specs.declared.error.PlanError.{PlanError}
@@ -138,18 +139,29 @@ page_read leaves addr (Some p) =
 abbrev pub pages_read : Bool → List SeenPage → List Addr → List Image
 pages_read leaves pages addrs = flat_map (λ addr. page_read leaves addr (seen_at pages addr)) addrs
 
--- the version's entry, where a step is a Put or a Del
-abbrev pub entry_read : List Step → VersionNo → CatEntry → List Image
-entry_read steps version entry =
-    if list_any is_change steps then entry_image version entry ∷ [] else []
+-- the nodes of these images and slots, and the least of them, or node 0 where there are none
+abbrev pub nodes_of : List Image → List Addr → List ℕ
+nodes_of images slots = map (λ i. i.node.0) images ++ map (λ s. s.node.0) slots
 
--- a transaction that has read all of this
-abbrev pub tried_state : Bool → Tried → State
-tried_state leaves r =
-    with_reads
+abbrev pub least_node : List Image → List Addr → NodeNo
+least_node images slots = node_no (unwrap_or (least_of (nodes_of images slots)) 0)
+
+-- the version's entry on this node, where a step is a Put or a Del
+abbrev pub entry_read : NodeNo → List Step → VersionNo → CatEntry → List Image
+entry_read n steps version entry =
+    if list_any is_change steps then entry_image n version entry ∷ [] else []
+
+-- the transaction with the entry on the least node of what it has read and of these slots
+abbrev pub with_entry : State → List Step → VersionNo → CatEntry → List Addr → State
+with_entry t steps version entry slots =
+    with_reads t (entry_read (least_node t.reads slots) steps version entry)
+
+-- a transaction that has read all of this, and is to have these slots
+abbrev pub tried_state : Bool → Tried → List Addr → State
+tried_state leaves r slots =
+    with_entry
     (with_reads (record { nodes = r.nodes; dirty = []; reads = []; writes = [] })
-    (pages_read leaves r.pages.now r.read_set.now))
-    (entry_read r.steps.now r.version r.entry)
+    (pages_read leaves r.pages.now r.read_set.now)) r.steps.now r.version r.entry slots
 
 -- the transaction with the count of a node that gives so many slots
 abbrev pub with_given : State → ℕ → ℕ → ℕ → State

@@ -3,6 +3,7 @@
 use Rattle.std.specs.Prelude.{ℕ, ◌≡◌, ◌≢◌, ◌+◌, ◌-◌, ◌^◌, ◌<◌, ◌≤◌, ◌⊎◌, true, false, List, []}
 use Rattle.std.specs.Prelude.{◌∷◌, ◌++◌, length, map, replicate, None, Some, slice_get, slice_set}
 use Rattle.std.specs.Prelude.{⊤}
+use Rattle.std.specs.List.{range_with_len}
 use Rattle.mn_base.specs.Store.{number_named}
 use Rattle.mn_base.specs.Tree.{has_version}
 use Rattle.mn_base.specs.declared.ids.Addr.{Addr}
@@ -19,6 +20,7 @@ use Rattle.mn_page.specs.Grammar.{IsPage}
 use Rattle.mn_page.specs.Forest.{heads_in}
 use Rattle.mn_catalog.specs.Versions.{Numbered}
 use Rattle.mn_runs.specs.declared.entry.Entry.{Entry}
+use Rattle.mn_law.specs.Places.{catalog_node}
 use Rattle.mn_law.specs.Planned.{IsPlanned}
 use Rattle.mn_txn.specs.declared.error.PlanError.{PlanError}
 use Rattle.mn_txn.specs.declared.error.PlanError.TheVariants.{Worn, NoMemory}
@@ -28,7 +30,7 @@ use Rattle.mn_txn.specs.Order.{in_item_order}
 use Rattle.mn_txn.specs.Plan.{RefusesPlan, can_plan, compare_of, first_worn, plan_of, write_of}
 use Rattle.mn_txn.specs.Laws.{ReadsAreShown}
 use Rattle.mn_txn.specs.Attempt.{count_image, page_image}
-use Rattle.mn_txn.specs.Children.{ChildTry, entry_image, unused_image}
+use Rattle.mn_txn.specs.Children.{ChildTry, entries_on, entry_image, unused_image}
 use Rattle.mn_txn.specs.Children.{child_reads, snapshot_writes, branch_writes}
 
 -- the entries have the version by this name, with this entry
@@ -90,13 +92,13 @@ BranchPlanned entries nodes name child root slot mini =
 abbrev pub snapshot_items : ℕ → ChildTry → Mini
 snapshot_items nodes c = record {
   nodes = nodes;
-  items = map compare_of (child_reads c) ++ map write_of (snapshot_writes c);
+  items = map compare_of (child_reads c) ++ map write_of (snapshot_writes nodes c);
 }
 
 abbrev pub branch_items : ℕ → ChildTry → Mini
 branch_items nodes c = record {
   nodes = nodes;
-  items = map compare_of (child_reads c) ++ map write_of (branch_writes c);
+  items = map compare_of (child_reads c) ++ map write_of (branch_writes nodes c);
 }
 
 -- the plan is this one
@@ -173,8 +175,8 @@ read_state nodes version entry root number slot = record {
   nodes = nodes;
   dirty = [];
   reads = with_images [] (
-      page_image entry.root root ∷ entry_image version entry ∷ unused_image number
-      ∷ count_image slot.node.0 slot.slot ∷ []
+      page_image entry.root root ∷ entry_image catalog_node version entry
+      ∷ unused_image number ∷ count_image slot.node.0 slot.slot ∷ []
       );
   writes = [];
 }
@@ -185,9 +187,13 @@ with_pages t addr root number slot =
     with_writes t
     (page_image addr (marked_for number root) ∷ page_image slot (copy_for number root) ∷ [])
 
--- with these entries
-abbrev pub with_entries : State → List Numbered → State
-with_entries t entries = with_writes t (map (λ e. entry_image e.0 e.1) entries)
+-- with these entries on a node, and on each of these nodes
+abbrev pub with_entries_on : State → List Numbered → ℕ → State
+with_entries_on t entries n = with_writes t (entries_on entries n)
+
+abbrev pub with_entries : State → List Numbered → List ℕ → State
+with_entries t entries [] = t
+with_entries t entries (n ∷ ns) = with_entries (with_entries_on t entries n) entries ns
 
 -- with the count of the slot's node, one higher
 abbrev pub with_count : State → Addr → State
@@ -199,7 +205,8 @@ abbrev pub child_state : ℕ → List CatEntry → VersionNo → CatEntry → Pa
 child_state nodes used version entry root slot entries =
     let number : VersionNo = record { 0 = length used } in
     let read = read_state nodes version entry root number slot in
-    with_count (with_entries (with_pages read entry.root root number slot) entries) slot
+    let paged = with_pages read entry.root root number slot in
+    with_count (with_entries paged entries (range_with_len 0 nodes)) slot
 
 -- so it is of what the version's own entry makes for a child
 abbrev pub OfChild : ℕ → List CatEntry → VersionNo → Page → Addr → List Numbered

@@ -1,9 +1,11 @@
 -- A try of a Snapshot or of a Branch, and what it reads and writes. When that is planned.
-use Rattle.std.specs.Prelude.{ℕ, ◌≡◌, ◌+◌, ◌^◌, ◌<◌, List, [], ◌∷◌, length, replicate}
+use Rattle.std.specs.Prelude.{ℕ, ◌≡◌, ◌+◌, ◌^◌, ◌<◌, List, [], ◌∷◌, ◌++◌, length, map, replicate}
 use Rattle.std.specs.Prelude.{Some, None, slice_get}
+use Rattle.std.specs.List.{flat_map, range_with_len}
 use Rattle.mn_base.specs.Name.{IsName}
 use Rattle.mn_base.specs.Store.{Head, number_named, refusal, max_versions}
 use Rattle.mn_base.specs.declared.ids.Addr.{Addr}
+use Rattle.mn_base.specs.declared.ids.NodeNo.{NodeNo}
 use Rattle.mn_base.specs.declared.ids.VersionNo.{VersionNo}
 use Rattle.mn_base.specs.declared.op.Op.TheVariants.{Snapshot, Branch}
 use Rattle.mn_base.specs.declared.reply.Reply.TheVariants.{Made}
@@ -15,6 +17,8 @@ use Rattle.mn_page.specs.Forest.{entry_head}
 use Rattle.mn_page.specs.Copies.{marked_for, copy_for}
 use Rattle.mn_page.specs.Added.{frozen_entry, child_entry}
 use Rattle.mn_runs.specs.declared.entry.Entry.{Entry}
+use Rattle.mn_catalog.specs.Versions.{Numbered}
+use Rattle.mn_law.specs.Places.{catalog_node}
 use Rattle.mn_law.specs.Planned.{IsPlanned}
 use Rattle.mn_plans.specs.Growth.{AreNextSlots, node_no}
 use Rattle.mn_txn.specs.declared.image.Image.{Image}
@@ -53,12 +57,19 @@ pub record IsChildTry (kept : List Head) (nodes : ℕ) (c : ChildTry) : Type 0 w
 
 -- Images
 
-abbrev pub entry_image : VersionNo → CatEntry → Image
-entry_image v e = image (node_no 0) (entry_start v.0) (entry_bytes e)
+abbrev pub entry_image : NodeNo → VersionNo → CatEntry → Image
+entry_image n v e = image n (entry_start v.0) (entry_bytes e)
 
 -- the place of a version that isn't there
 abbrev pub unused_image : VersionNo → Image
-unused_image v = image (node_no 0) (entry_start v.0) (replicate entry_size 0)
+unused_image v = image catalog_node (entry_start v.0) (replicate entry_size 0)
+
+-- entries on one node, and on each of so many, by node and then as they are listed
+abbrev pub entries_on : List Numbered → ℕ → List Image
+entries_on entries n = map (λ e. entry_image (node_no n) e.0 e.1) entries
+
+abbrev pub entries_written : ℕ → List Numbered → List Image
+entries_written nodes entries = flat_map (entries_on entries) (range_with_len 0 nodes)
 
 -- the count of the slot's node, as it was read, and as it is then
 abbrev pub count_read : ChildTry → Image
@@ -74,25 +85,32 @@ root_written c = page_image c.entry.root (marked_for c.number c.root)
 abbrev pub copy_written : ChildTry → Image
 copy_written c = page_image c.slot (copy_for c.number c.root)
 
--- the child's entry
-abbrev pub child_written : ChildTry → Image
-child_written c = entry_image c.number (child_entry c.version c.child c.slot)
+-- the version's entry, now frozen, and the child's
+abbrev pub frozen_written : ChildTry → Numbered
+frozen_written c = (c.version, frozen_entry c.entry)
 
--- what is compared: the root, the version's entry, the first unused place, and the count
+abbrev pub child_written : ChildTry → Numbered
+child_written c = (c.number, child_entry c.version c.child c.slot)
+
+-- what is compared: the root; on the node from which the catalog is read the version's entry and
+-- the first unused place; and the count
 abbrev pub child_reads : ChildTry → List Image
 child_reads c =
-    page_image c.entry.root c.root ∷ entry_image c.version c.entry ∷ unused_image c.number
-    ∷ count_read c ∷ []
+    page_image c.entry.root c.root ∷ entry_image catalog_node c.version c.entry
+    ∷ unused_image c.number ∷ count_read c ∷ []
 
--- what a Snapshot writes: with the version's entry, now frozen
-abbrev pub snapshot_writes : ChildTry → List Image
-snapshot_writes c =
-    root_written c ∷ copy_written c ∷ entry_image c.version (frozen_entry c.entry)
-    ∷ child_written c ∷ count_written c ∷ []
+-- what is written over so many nodes, with these entries on each
+abbrev pub child_writes : ℕ → ChildTry → List Numbered → List Image
+child_writes nodes c entries =
+    root_written c ∷ copy_written c ∷ entries_written nodes entries ++ count_written c ∷ []
+
+-- what a Snapshot writes
+abbrev pub snapshot_writes : ℕ → ChildTry → List Image
+snapshot_writes nodes c = child_writes nodes c (frozen_written c ∷ child_written c ∷ [])
 
 -- what a Branch writes: the version's entry stays
-abbrev pub branch_writes : ChildTry → List Image
-branch_writes c = root_written c ∷ copy_written c ∷ child_written c ∷ count_written c ∷ []
+abbrev pub branch_writes : ℕ → ChildTry → List Image
+branch_writes nodes c = child_writes nodes c (child_written c ∷ [])
 
 -- Planned
 
@@ -103,7 +121,7 @@ SnapshotIsPlanned =
     (kept : List Head) (t : State) (c : ChildTry) → IsChildTry kept t.nodes c
     → refusal kept (Snapshot c.name c.child) ≡ None → c.entry.seq + 1 < 2 ^ 64
     → ImagesAreApart t.reads → ImagesAreApart t.writes
-    → in_item_order t.reads ≡ child_reads c → in_item_order t.writes ≡ snapshot_writes c
+    → in_item_order t.reads ≡ child_reads c → in_item_order t.writes ≡ snapshot_writes t.nodes c
     → (es : List Entry) → ReadsAreShown es t.reads
     → IsPlanned es kept (Snapshot c.name c.child) (plan_of t) Made
 
@@ -113,7 +131,7 @@ BranchIsPlanned =
     (kept : List Head) (t : State) (c : ChildTry) → IsChildTry kept t.nodes c
     → refusal kept (Branch c.name c.child) ≡ None
     → ImagesAreApart t.reads → ImagesAreApart t.writes
-    → in_item_order t.reads ≡ child_reads c → in_item_order t.writes ≡ branch_writes c
+    → in_item_order t.reads ≡ child_reads c → in_item_order t.writes ≡ branch_writes t.nodes c
     → (es : List Entry) → ReadsAreShown es t.reads
     → IsPlanned es kept (Branch c.name c.child) (plan_of t) Made
 
@@ -123,7 +141,7 @@ BranchIsPlanned =
 -- the version's
 abbrev pub ChildrenStandInOrder : Type 0
 ChildrenStandInOrder =
-    (c : ChildTry) → c.version.0 < c.number.0 → c.number.0 < max_versions
+    (nodes : ℕ) (c : ChildTry) → c.version.0 < c.number.0 → c.number.0 < max_versions
     → (in_item_order (child_reads c) ≡ child_reads c)
-    × (in_item_order (snapshot_writes c) ≡ snapshot_writes c)
-    × (in_item_order (branch_writes c) ≡ branch_writes c)
+    × (in_item_order (snapshot_writes nodes c) ≡ snapshot_writes nodes c)
+    × (in_item_order (branch_writes nodes c) ≡ branch_writes nodes c)

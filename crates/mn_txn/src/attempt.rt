@@ -11,16 +11,14 @@ ghost use Rattle.mn_txn.specs.declared.error.PlanError.TheVariants as plan;
 ghost use Rattle.mn_txn.specs.Attempt.{Attempt, page_image};
 ghost use Rattle.mn_txn.specs.AttemptPlan.{DonePlanned, IsDonePlan, IsUnmetPlan, MayBeDone};
 ghost use Rattle.mn_txn.specs.AttemptPlan.{MayBeUnmet, MayWrite, RefusesDone, UnmetPlanned};
-ghost use Rattle.mn_txn.specs.AttemptPlan.{entry_read, page_read, pages_read, placing_state};
-ghost use Rattle.mn_txn.specs.AttemptPlan.{tried_state, with_counts, with_given, with_reads};
+ghost use Rattle.mn_txn.specs.AttemptPlan.{page_read, pages_read, placing_state, tried_state};
+ghost use Rattle.mn_txn.specs.AttemptPlan.{with_counts, with_entry, with_given, with_reads};
 ghost use Rattle.mn_txn.specs.ChildPlan.{with_writes};
 ghost use Rattle.mn_txn.specs.Seen.{seen_at};
 
 use crate::image::COUNT_START;
 use crate::seen::{SeenPage, page_at};
-use crate::spelled::{
-    CATALOG_NODE, SpelledEntry, count_bytes, entry_start, placed_bytes, slot_start,
-};
+use crate::spelled::{SpelledEntry, count_bytes, entry_start, placed_bytes, slot_start};
 use crate::{
     PlanError, Txn, attempts_stand_in_order, done_is_planned, done_may_be_planned,
     unmet_is_planned, unmet_may_be_planned, worn_is_changed,
@@ -87,32 +85,43 @@ fn read_pages(
     Ok(())
 }
 
-/// The version's entry joins the read set, if some step is a Put or a Del.
+/// The version's entry joins the read set, if some step is a Put or a Del. Each node has it: it is
+/// compared on the least node of what was read and of the slots, so that it asks no other node.
 fn read_entry(
     alloc: Global,
     txn: &mut Txn,
     steps: &Steps,
     version: VersionNo,
     entry: &SpelledEntry<'_>,
+    slots: &[Addr],
 ) -> Result<(), NoMemory>
-    ensures { OnOk result (txn.new ≡ with_reads txn.old (entry_read steps.now version entry.now)) }
+    ensures { OnOk result
+        (txn.new ≡ with_entry txn.old steps.now version entry.now slots.now) }
 {
     if !steps.has_change() {
         return Ok(());
     }
+    let node = txn.least_node(slots);
     let bytes = entry.share(alloc)?;
-    txn.read(CATALOG_NODE, entry_start(version), bytes)
+    txn.read(node, entry_start(version), bytes)
 }
 
 /// A transaction that has read all that the try did; of the pages of the read set the leaves alone,
-/// if so wanted.
+/// if so wanted. Its new pages are to have these slots.
 #[inline(always)]
-fn tried_txn(alloc: Global, tried: Tried<'_>, leaves: bool) -> Result<Txn, NoMemory>
-    ensures { IfOk result (λ txn. txn ≡ tried_state leaves tried.entry) }
+fn tried_txn(alloc: Global, tried: Tried<'_>, leaves: bool, slots: &[Addr]) -> Result<Txn, NoMemory>
+    ensures { IfOk result (λ txn. txn ≡ tried_state leaves tried.entry slots.now) }
 {
     let mut txn = Txn::new(alloc, tried.nodes)?;
     read_pages(alloc, &mut txn, tried.pages, tried.read_set, leaves)?;
-    read_entry(alloc, &mut txn, tried.steps, tried.version, &tried.entry)?;
+    read_entry(
+        alloc,
+        &mut txn,
+        tried.steps,
+        tried.version,
+        &tried.entry,
+        slots,
+    )?;
     Ok(txn)
 }
 
@@ -219,9 +228,9 @@ fn tries_are_known()
 }
 
 /// The plan of a transaction whose Checks are met, by what its try has read and is to write. It
-/// compares the pages of the read set, the version's entry if some step is a Put or a Del, and the
-/// count of each node that gives slots; it writes the changed and new pages and these counts
-/// (Minuet, PVLDB 2012).
+/// compares the pages of the read set, the count of each node that gives slots, and, if some step
+/// is a Put or a Del, the version's entry on the least node of these; it writes the changed and new
+/// pages and these counts (Minuet, PVLDB 2012).
 ///
 /// Worn: a changed page was read with the last sequence number, 2^64 - 1. NoMemory: there was no
 /// memory for it.
@@ -240,7 +249,7 @@ pub fn done_plan(
     done_may_be_planned();
     done_is_planned();
     worn_is_changed();
-    let mut txn = tried_txn(alloc, tried, false)?;
+    let mut txn = tried_txn(alloc, tried, false, placing.slots)?;
     write_all(alloc, &mut txn, placing)?;
     txn.plan(alloc)
 }
@@ -254,8 +263,8 @@ fn no_memory(error: PlanError) -> NoMemory
 }
 
 /// The plan of a transaction with a Check that is unmet, by what its try has read: it compares the
-/// leaves that it touched, and the version's entry if some step is a Put or a Del. NoMemory: there
-/// was no memory for it.
+/// leaves that it touched, and the version's entry, on the least node of them, if some step is a
+/// Put or a Del. NoMemory: there was no memory for it.
 pub fn unmet_plan(alloc: Global, tried: Tried<'_>) -> Result<Minitransaction, NoMemory>
     requires may { (kept : List Head) × (a : Attempt) × MayBeUnmet kept tried a }
     ensures planned { IfOk result (UnmetPlanned tried.entry) }
@@ -265,7 +274,7 @@ pub fn unmet_plan(alloc: Global, tried: Tried<'_>) -> Result<Minitransaction, No
     attempts_stand_in_order();
     unmet_may_be_planned();
     unmet_is_planned();
-    let txn = tried_txn(alloc, tried, true)?;
+    let txn = tried_txn(alloc, tried, true, &[])?;
     match txn.plan(alloc) {
         Ok(mini) => Ok(mini),
         Err(error) => Err(no_memory(error)),

@@ -1,4 +1,5 @@
 ghost use Rattle.std.specs.Prelude.{◌≡◌, ◌<◌, None, false, length, IfOk, IfErr, OnOk};
+ghost use Rattle.std.specs.List.{range_with_len};
 ghost use Rattle.mn_base.specs.Store.{max_versions, refusal};
 ghost use Rattle.mn_base.specs.Tree.{has_version};
 ghost use Rattle.mn_base.specs.declared.op.Op.TheVariants as Does;
@@ -9,14 +10,15 @@ ghost use Rattle.mn_txn.specs.ChildPlan.{IsBranchPlan, IsSnapshotPlan, MayHaveCh
 ghost use Rattle.mn_txn.specs.ChildPlan.{BranchPlanned, SnapshotPlanned};
 ghost use Rattle.mn_txn.specs.ChildPlan.{RefusesBranch, RefusesSnapshot};
 ghost use Rattle.mn_txn.specs.ChildPlan.{IsChildPlan, IsChildState, MayPlanChild, RefusesChild};
-ghost use Rattle.mn_txn.specs.ChildPlan.{read_state, with_count, with_entries, with_pages};
+ghost use Rattle.mn_txn.specs.ChildPlan.{read_state, with_count, with_entries, with_entries_on};
+ghost use Rattle.mn_txn.specs.ChildPlan.{with_pages};
 
 use crate::image::COUNT_START;
 use crate::spelled::{
     CATALOG_NODE, count_bytes, entry_bytes, entry_start, no_entry_bytes, page_bytes, slot_start,
 };
 use crate::{PlanError, Txn, branch_is_planned, children_stand_in_order, snapshot_is_planned};
-use mn_base::{Addr, Name, NoMemory, VersionNo};
+use mn_base::{Addr, Name, NoMemory, NodeNo, VersionNo};
 use mn_catalog::Catalog;
 use mn_cow::copy_for;
 use mn_mini::Minitransaction;
@@ -72,17 +74,33 @@ fn write_pages(
     txn.write(slot.node, slot_start(slot.slot), new)
 }
 
-/// Writes entries.
-fn write_entries(
+/// Writes entries on a node.
+fn write_entries_on(
     alloc: Global,
     txn: &mut Txn,
+    node: NodeNo,
     entries: &[(VersionNo, CatEntry)],
 ) -> Result<(), NoMemory>
-    ensures { OnOk result (txn.new ≡ with_entries txn.old entries.now) }
+    ensures { OnOk result (txn.new ≡ with_entries_on txn.old entries.now node.0) }
 {
     for (number, entry) in entries {
         let bytes = entry_bytes(alloc, entry)?;
-        txn.write(CATALOG_NODE, entry_start(*number), bytes)?;
+        txn.write(node, entry_start(*number), bytes)?;
+    }
+    Ok(())
+}
+
+/// Writes entries on each of so many nodes.
+fn write_entries(
+    alloc: Global,
+    txn: &mut Txn,
+    nodes: u8,
+    entries: &[(VersionNo, CatEntry)],
+) -> Result<(), NoMemory>
+    ensures { OnOk result (txn.new ≡ with_entries txn.old entries.now (range_with_len 0 nodes)) }
+{
+    for number in 0..nodes {
+        write_entries_on(alloc, txn, NodeNo(number), entries)?;
     }
     Ok(())
 }
@@ -119,7 +137,7 @@ fn child_txn(
     let entry = &used[usize::from(version.0)];
     let mut txn = read_for(alloc, nodes, version, entry, root, number, slot)?;
     write_pages(alloc, &mut txn, entry.root, root, number, slot)?;
-    write_entries(alloc, &mut txn, entries)?;
+    write_entries(alloc, &mut txn, nodes, entries)?;
     write_count(alloc, &mut txn, slot)?;
     Ok(txn)
 }
@@ -150,9 +168,10 @@ fn child_plan(
 
 /// The plan of the Snapshot of the version `name` with the child `child`, by the catalog, the root
 /// page of the version as it was read, and the slot that its copy is to have, which is the next one
-/// of its node. It compares the root page, the version's entry, the first unused entry and the
-/// count of the slot's node, and writes the root page, marked for the child, its copy, the
-/// version's entry, now frozen, the child's entry and the count (Minuet, PVLDB 2012).
+/// of its node. It compares the root page, the version's entry and the first unused entry, both
+/// where the catalog is read, and the count of the slot's node. It writes the root page, marked for
+/// the child, its copy, on every node the version's entry, now frozen, and the child's entry, and
+/// the count (Minuet, PVLDB 2012).
 ///
 /// Worn: the root page or the version's entry was read with the last sequence number, 2^64 - 1.
 /// NoMemory: there was no memory for it.

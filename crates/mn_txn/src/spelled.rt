@@ -11,7 +11,7 @@ use mn_page::{CatEntry, Page, PlacedPage};
 use std::alloc::Global;
 use std::marker::Model;
 
-/// The node of the catalog.
+/// The node from which the catalog is read; each node has it.
 pub const CATALOG_NODE: NodeNo = NodeNo(0);
 
 /// Where the catalog begins, and how many bytes an entry has.

@@ -11,6 +11,8 @@ ghost use Rattle.mn_txn.specs.Order.{in_item_order};
 ghost use Rattle.mn_txn.specs.Plan.{plan_of, compare_of, write_of, is_inside, are_inside, can_plan};
 ghost use Rattle.mn_txn.specs.Plan.{is_last, is_last_read, is_worn, first_worn, only_read};
 ghost use Rattle.mn_txn.specs.Plan.{RefusesPlan};
+ghost use Rattle.mn_txn.specs.AttemptPlan.{least_node, nodes_of};
+ghost use Rattle.mn_law.specs.Planned.{least_of, lesser};
 
 use crate::image::{COUNT_START, SLOTS_START};
 use crate::{Image, PlanError};
@@ -177,6 +179,42 @@ fn first_worn(dirty: &[Image], reads: &[Image], images: &[Image]) -> Option<(Nod
     None
 }
 
+/// The lesser of the node and of the other, if there is one.
+fn lesser(node: u8, other: Option<u8>) -> u8
+    ensures { result ≡ lesser node other }
+{
+    match other {
+        Some(other) if other < node => other,
+        _ => node,
+    }
+}
+
+/// The least node of the slots.
+fn least_of_slots(slots: &[Addr]) -> Option<u8>
+    ensures { result ≡ least_of (nodes_of [] slots.now) }
+{
+    let mut least = None;
+    let mut left = slots;
+    while let [before @ .., slot] = left {
+        least = Some(lesser(slot.node.0, least));
+        left = before;
+    }
+    least
+}
+
+/// The least node of the images and of the slots.
+fn least_of(images: &[Image], slots: &[Addr]) -> Option<u8>
+    ensures { result ≡ least_of (nodes_of images.now slots.now) }
+{
+    let mut least = least_of_slots(slots);
+    let mut left = images;
+    while let [before @ .., image] = left {
+        least = Some(lesser(image.node.0, least));
+        left = before;
+    }
+    least
+}
+
 /// The first 8 of these bytes, or all of them where there are fewer.
 fn front_of(bytes: &[u8]) -> &[u8]
     ensures { result.now ≡ take number_size bytes.now }
@@ -302,6 +340,13 @@ impl Txn {
         ensures unchanged { OnErr result (self.new ≡ self.old) }
     {
         keep(&mut self.writes, node, start, bytes)
+    }
+
+    /// The least node of what it has read and of these slots; node 0 where there is none of either.
+    pub fn least_node(&self, slots: &[Addr]) -> NodeNo
+        ensures { result ≡ least_node self.now.reads slots.now }
+    {
+        NodeNo(least_of(&self.reads, slots).unwrap_or(0))
     }
 
     /// Whether there may be a plan: the read set and the writes give 1 to 1,024 items, each of 1 to

@@ -975,7 +975,6 @@ wanted_kept nodes entries all a b reply mini same wanted = record {
         inr (inl (record {
           entry = read.entry;
           there = subst (λ (v : VersionNo). slice_get entries v.0 ≡ Some read.entry) (sym same.0.0) read.there;
-          node_is = read.node_is;
           start_is = ap (λ (v : VersionNo). entry_start v.0) same.0.0 ∙ read.start_is;
           bytes_are = read.bytes_are;
         }))

@@ -17,7 +17,7 @@ use Rattle.mn_page.specs.Overlay.{Held, held_at}
 use Rattle.mn_page.specs.Space.{entry_start}
 use Rattle.mn_tree.specs.Moves.{Move, came_at, comes_in}
 use Rattle.mn_runs.specs.Clients.{is_plan}
-use Rattle.mn_plans.specs.Growth.{giving_nodes, node_no, taken_on}
+use Rattle.mn_plans.specs.Growth.{giving_nodes, taken_on}
 use Rattle.mn_law.specs.Places.{number_size}
 use Rattle.mn_plans.proofs.Grown.{addr_is}
 use Rattle.mn_plans.proofs.Told.{all_there}
@@ -25,7 +25,7 @@ use Rattle.mn_txn.specs.declared.image.Image.{Image}
 use Rattle.mn_txn.specs.declared.seen.SeenPage.{SeenPage}
 use Rattle.mn_txn.specs.State.{image}
 use Rattle.mn_txn.specs.Plan.{compare_of, write_of}
-use Rattle.mn_txn.specs.Attempt.{Attempt as Tried, came_images, count_image, counts_read, done_reads, entry_images, page_image, unmet_reads}
+use Rattle.mn_txn.specs.Attempt.{Attempt as Tried, least_addr, came_images, count_image, counts_read, done_reads, entry_images, page_image, unmet_reads}
 use Rattle.mn_txn.specs.Seen.{seen_as}
 use Rattle.mn_tree.specs.Moves.{leaves_at}
 use Rattle.mn_work.specs.declared.attempt.Attempt.{Attempt}
@@ -163,18 +163,17 @@ module _ (entries : List CatEntry) (a : Attempt) where
       )
 
   -- the entry of its version
-  pub entry_read : (t : Tried) → t.version ≡ a.version → slice_get entries a.version.0 ≡ Some t.entry
-      → AllByRecursion HasRead (entry_images t)
-  entry_read t version there = by (list_any is_change t.steps)
+  pub entry_read : (node : NodeNo) (t : Tried) → t.version ≡ a.version → slice_get entries a.version.0 ≡ Some t.entry
+      → AllByRecursion HasRead (entry_images node t)
+  entry_read node t version there = by (list_any is_change t.steps)
     where
       by : (b : Bool)
           → AllByRecursion HasRead
-          (if b then image (node_no 0) (entry_start t.version.0) (entry_bytes t.entry) ∷ [] else [])
+          (if b then image node (entry_start t.version.0) (entry_bytes t.entry) ∷ [] else [])
       by true = (
         inr (inl (record {
           entry = t.entry;
           there = there;
-          node_is = refl;
           start_is = ap (λ v. entry_start v.0) (sym version);
           bytes_are = refl;
         })),
@@ -229,13 +228,15 @@ module _ (entries : List CatEntry) (a : Attempt) where
       → slice_get entries a.version.0 ≡ Some t.entry
       → (t.counts ≡ a.counts.items) ⊎ (t.slots ≡ []) → AllByRecursion HasRead (done_reads t)
   done_read t came pages is version there counts =
-      all_append HasRead (came_images t.moves t.draft.read) (entry_images t ++ counts_read t)
+      let node = least_addr (t.draft.read ++ t.slots) in
+      all_append HasRead (came_images t.moves t.draft.read) (entry_images node t ++ counts_read t)
       (came_read came t.moves pages is t.draft.read)
-      (all_append HasRead (entry_images t) (counts_read t) (entry_read t version there) (counts_are_read t counts))
+      (all_append HasRead (entry_images node t) (counts_read t) (entry_read node t version there) (counts_are_read t counts))
 
   pub unmet_read : (t : Tried) (came : List Held) → a.pages.items ≡ map seen_as came
       → comes_in t.moves ≡ came → t.version ≡ a.version
       → slice_get entries a.version.0 ≡ Some t.entry → AllByRecursion HasRead (unmet_reads t)
   unmet_read t came pages is version there =
-      all_append HasRead (came_images t.moves (leaves_at t.moves t.draft.read)) (entry_images t)
-      (came_read came t.moves pages is (leaves_at t.moves t.draft.read)) (entry_read t version there)
+      let leaves = leaves_at t.moves t.draft.read in
+      all_append HasRead (came_images t.moves leaves) (entry_images (least_addr leaves) t)
+      (came_read came t.moves pages is leaves) (entry_read (least_addr leaves) t version there)

@@ -8,6 +8,7 @@ use Rattle.std.specs.Option.{option_map, option_map_or, option_to_list}
 use Rattle.mn_base.specs.Ids.{addr_same}
 use Rattle.mn_base.specs.Store.{is_change, max_versions}
 use Rattle.mn_base.specs.declared.ids.Addr.{Addr}
+use Rattle.mn_base.specs.declared.ids.NodeNo.{NodeNo}
 use Rattle.mn_base.specs.declared.ids.VersionNo.{VersionNo}
 use Rattle.mn_base.specs.declared.error.NoMemory.{NoMemory}
 use Rattle.mn_base.proofs.Lists.{all_append}
@@ -21,7 +22,7 @@ use Rattle.mn_page.proofs.Spelled.{entry_length, page_length}
 use Rattle.mn_tree.specs.Moves.{Comes, Does, LeadsTo, Move, came_at, comes_in, leaves_at}
 use Rattle.mn_tree.specs.State.{Drafted}
 use Rattle.mn_runs.specs.declared.entry.Entry.{Entry}
-use Rattle.mn_plans.specs.Growth.{giving_nodes, node_no}
+use Rattle.mn_plans.specs.Growth.{giving_nodes}
 use Rattle.mn_law.specs.Places.{IsNumbered, catalog_node, entry_place, number_size}
 use Rattle.mn_runs.specs.Seen.{Place}
 use Rattle.mn_law.specs.Shown.{ShowsLast}
@@ -30,7 +31,7 @@ use Rattle.mn_plans.proofs.Told.{all_there}
 use Rattle.mn_txn.specs.declared.image.Image.{Image}
 use Rattle.mn_txn.specs.declared.seen.SeenPage.{SeenPage}
 use Rattle.mn_txn.specs.State.{image}
-use Rattle.mn_txn.specs.Attempt.{Attempt as Tried, came_images, count_image, counts_read, done_reads, entry_images, page_image, unmet_reads}
+use Rattle.mn_txn.specs.Attempt.{Attempt as Tried, least_addr, came_images, count_image, counts_read, done_reads, entry_images, page_image, unmet_reads}
 use Rattle.mn_txn.specs.Laws.{ReadsAreShown, image_place}
 use Rattle.mn_txn.specs.Seen.{seen_as}
 use Rattle.mn_work.specs.Cached.{AreUsed, used_all}
@@ -125,21 +126,21 @@ module _ (es : List Entry) where
       sized : ℕ → Place
       sized n = record { node = x.node; start = slot_start x.slot; length = n }
 
-  pub place_last : (entries : List CatEntry) (v : ℕ) (bytes : List ℕ) → CatalogIsLast es entries → v < max_versions
-      → bytes_at entries v ≡ bytes → length bytes ≡ 64 → OneIsLast (image (node_no 0) (entry_start v) bytes)
-  place_last entries v bytes catalog low is long off = (
-    inr (v, low, ap (λ (n : ℕ). sized n) long),
+  pub place_last : (entries : List CatEntry) (node : NodeNo) (v : ℕ) (bytes : List ℕ) → CatalogIsLast es entries → v < max_versions
+      → bytes_at entries v ≡ bytes → length bytes ≡ 64 → OneIsLast (image node (entry_start v) bytes)
+  place_last entries node v bytes catalog low is long off = (
+    inr (node, v, low, ap (λ (n : ℕ). sized n) long),
     subst (λ (n : ℕ). ShowsLast es (sized n) (take number_size bytes) bytes) (sym long)
-        (subst (λ (b : List ℕ). IsLast es (entry_place catalog_node v) b) is (catalog v low)),
+        (subst (λ (b : List ℕ). IsLast es (entry_place node v) b) is (catalog node v low)),
   )
     where
       sized : ℕ → Place
-      sized n = record { node = node_no 0; start = entry_start v; length = n }
+      sized n = record { node = node; start = entry_start v; length = n }
 
-  pub entry_last : (entries : List CatEntry) (v : ℕ) (e : CatEntry) → CatalogIsLast es entries → v < max_versions
-      → slice_get entries v ≡ Some e → IsEntry e → OneIsLast (image (node_no 0) (entry_start v) (entry_bytes e))
-  entry_last entries v e catalog low there entry =
-      place_last entries v (entry_bytes e) catalog low (ap (λ (o : Option CatEntry). option_map_or entry_bytes o (replicate entry_size 0)) there) (entry_length e entry)
+  pub entry_last : (entries : List CatEntry) (node : NodeNo) (v : ℕ) (e : CatEntry) → CatalogIsLast es entries → v < max_versions
+      → slice_get entries v ≡ Some e → IsEntry e → OneIsLast (image node (entry_start v) (entry_bytes e))
+  entry_last entries node v e catalog low there entry =
+      place_last entries node v (entry_bytes e) catalog low (ap (λ (o : Option CatEntry). option_map_or entry_bytes o (replicate entry_size 0)) there) (entry_length e entry)
 
   none_there : (entries : List CatEntry) → slice_get entries (length entries) ≡ None
   none_there [] = refl
@@ -147,9 +148,9 @@ module _ (es : List Entry) where
 
   -- the first unused place
   pub unused_last : (entries : List CatEntry) → CatalogIsLast es entries → length entries < max_versions
-      → OneIsLast (image (node_no 0) (entry_start (length entries)) (replicate entry_size 0))
+      → OneIsLast (image catalog_node (entry_start (length entries)) (replicate entry_size 0))
   unused_last entries catalog low =
-      place_last entries (length entries) (replicate entry_size 0) catalog low (ap (λ (o : Option CatEntry). option_map_or entry_bytes o (replicate entry_size 0)) (none_there entries)) refl
+      place_last entries catalog_node (length entries) (replicate entry_size 0) catalog low (ap (λ (o : Option CatEntry). option_map_or entry_bytes o (replicate entry_size 0)) (none_there entries)) refl
 
   counts_last : (count : ℕ → ℕ) (ns : List ℕ)
       → AllByRecursion OneIsLast (map (λ n. count_image n (count n)) ns)
@@ -181,15 +182,15 @@ module _ (es : List Entry) where
           let it = all_there (λ h. IsPage h.page × IsAddr h.addr) came (record { addr = x; page = p }) all has in
           (page_last x p it.0 it.1 (of_came came (record { addr = x; page = p }) (subst (PagesAreLast es) are last) has), rest)
 
-  entries_last : (entries : List CatEntry) (t : Tried) → CatalogIsLast es entries → t.version.0 < max_versions
+  entries_last : (entries : List CatEntry) (node : NodeNo) (t : Tried) → CatalogIsLast es entries → t.version.0 < max_versions
       → slice_get entries t.version.0 ≡ Some t.entry → IsEntry t.entry
-      → AllByRecursion OneIsLast (entry_images t)
-  entries_last entries t catalog low there entry = by (list_any is_change t.steps)
+      → AllByRecursion OneIsLast (entry_images node t)
+  entries_last entries node t catalog low there entry = by (list_any is_change t.steps)
     where
       by : (b : Bool)
           → AllByRecursion OneIsLast
-          (if b then image (node_no 0) (entry_start t.version.0) (entry_bytes t.entry) ∷ [] else [])
-      by true = (entry_last entries t.version.0 t.entry catalog low there entry, tt)
+          (if b then image node (entry_start t.version.0) (entry_bytes t.entry) ∷ [] else [])
+      by true = (entry_last entries node t.version.0 t.entry catalog low there entry, tt)
       by false = tt
 
   module _ (entries : List CatEntry) (t : Tried) (pages : List SeenPage) (came : List Held)
@@ -204,13 +205,15 @@ module _ (es : List Entry) where
 
     pub done_last : ReadsAreShown es (done_reads t)
     done_last =
-        all_append OneIsLast (came_images t.moves t.draft.read) (entry_images t ++ counts_read t)
+        let node = least_addr (t.draft.read ++ t.slots) in
+        all_append OneIsLast (came_images t.moves t.draft.read) (entry_images node t ++ counts_read t)
         (pages_last pages came t.moves last are is all_came t.draft.read)
-        (all_append OneIsLast (entry_images t) (counts_read t) (entries_last entries t catalog low there entry)
+        (all_append OneIsLast (entry_images node t) (counts_read t) (entries_last entries node t catalog low there entry)
         (counts_last (λ n. slice_index_or t.counts n 0) (giving_nodes t.counts t.slots)))
 
     pub unmet_last : ReadsAreShown es (unmet_reads t)
     unmet_last =
-        all_append OneIsLast (came_images t.moves (leaves_at t.moves t.draft.read)) (entry_images t)
-        (pages_last pages came t.moves last are is all_came (leaves_at t.moves t.draft.read))
-        (entries_last entries t catalog low there entry)
+        let leaves = leaves_at t.moves t.draft.read in
+        all_append OneIsLast (came_images t.moves leaves) (entry_images (least_addr leaves) t)
+        (pages_last pages came t.moves last are is all_came leaves)
+        (entries_last entries (least_addr leaves) t catalog low there entry)

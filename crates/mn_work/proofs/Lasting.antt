@@ -21,7 +21,7 @@ use Rattle.mn_txn.specs.declared.seen.SeenPage.{SeenPage}
 use Rattle.mn_runs.specs.declared.entry.Entry.{Entry}
 use Rattle.mn_runs.specs.Seen.{Place, Seen}
 use Rattle.mn_law.specs.Places.{catalog_node, catalog_place, entry_place, page_place}
-use Rattle.mn_law.specs.Shown.{FirstGives, GivesPlace, SeesCatalog, shown_in}
+use Rattle.mn_law.specs.Shown.{FirstGives, GivesPlace, SeesCatalog, TellsPlace, shown_in}
 use Rattle.mn_work.specs.Cached.{ArePut, Puts, Replaces}
 use Rattle.mn_work.specs.Last.{AreReadAs, CacheIsLast, CatalogIsLast, IsLast, PageIsLast, PagesAreLast, bytes_at}
 use Rattle.std.specs.Prelude.{if◌then◌else◌, nat_eq}
@@ -113,7 +113,7 @@ module _ (older newer : List Entry) (seen : Seen) (one : shown_in newer ≡ seen
   pub is_last : (place : Place) → seen.place ≡ place → IsLast newer place seen.bytes
   is_last place is =
       subst (λ (l : List Seen). FirstGives l place (take 8 seen.bytes) seen.bytes) (sym one) (inl (
-        record {
+        inl (record {
           node = ap (λ (p : Place). p.node) is;
           begins = let s = ap (λ (p : Place). p.start) is in omega (arith, s);
           ends = let s = ap (λ (p : Place). p.start) is in let n = ap (λ (p : Place). p.length) is in omega (arith, s, n, long);
@@ -122,17 +122,36 @@ module _ (older newer : List Entry) (seen : Seen) (one : shown_in newer ≡ seen
               let n = ap (λ (p : Place). p.length) is in
               ap (λ (k : ℕ). take place.length (drop k seen.bytes)) (zero_at s)
               ∙ (ap (λ (k : ℕ). take k seen.bytes) (sym n ∙ sym long) ∙ take-length seen.bytes);
-        },
+        }),
         refl,
       ))
     where
       zero_at : seen.place.start ≡ place.start → place.start - seen.place.start ≡ 0
       zero_at s = omega (arith, s)
 
-  pub stays_last : (place : Place) (bytes : List ℕ) → (LiesIn place → ⊥) → IsLast older place bytes → IsLast newer place bytes
+  lies_there : (place : Place) (other : List ℕ) → GivesPlace seen place other → LiesIn place
+  lies_there place other gives = (gives.node, gives.begins, (let e = gives.ends in omega (arith, e, long)))
+
+  stays_last : (place : Place) (bytes : List ℕ) → ((other : List ℕ) → TellsPlace seen place other → ⊥) → IsLast older place bytes → IsLast newer place bytes
   stays_last place bytes off last =
-      subst (λ (l : List Seen). FirstGives l place (take 8 bytes) bytes) (sym one)
-      (inr ((λ other gives. off (gives.0.node, gives.0.begins, (let e = gives.0.ends in omega (arith, e, long)))), last))
+      subst (λ (l : List Seen). FirstGives l place (take 8 bytes) bytes) (sym one) (inr ((λ other from. off other from.0), last))
+
+  -- a page is told by a read of it alone
+  page_stays : (x : Addr) (bytes : List ℕ) → (LiesIn (page_place x) → ⊥) → IsLast older (page_place x) bytes → IsLast newer (page_place x) bytes
+  page_stays x bytes off last = stays_last (page_place x) bytes told last
+    where
+      told : (other : List ℕ) → TellsPlace seen (page_place x) other → ⊥
+      told other (inl gives) = off (lies_there (page_place x) other gives)
+      told other (inr (entry, gives)) = let same : ◌≡◌ {A = ℕ} 1024 64 = ap (λ (p : Place). p.length) entry.3 in absurd (omega arith)
+
+  -- an entry by one of it, or of that on the node from which the catalog is read
+  entry_stays : (n : NodeNo) (v : ℕ) (bytes : List ℕ) → v < max_versions
+      → ((m : NodeNo) (w : ℕ) → w < max_versions → LiesIn (entry_place m w) → ⊥) → IsLast older (entry_place n v) bytes → IsLast newer (entry_place n v) bytes
+  entry_stays n v bytes low off last = stays_last (entry_place n v) bytes told last
+    where
+      told : (other : List ℕ) → TellsPlace seen (entry_place n v) other → ⊥
+      told other (inl gives) = off n v low (lies_there (entry_place n v) other gives)
+      told other (inr (entry, gives)) = off catalog_node v low (lies_there (entry_place catalog_node v) other gives)
 
   -- A page was read
 
@@ -151,18 +170,18 @@ module _ (older newer : List Entry) (seen : Seen) (one : shown_in newer ≡ seen
         let slots : y.slot ≡ x.slot = omega (arith, s, l, begins, ends) in
         other (addr_by y x (sym node ∙ ap (λ (p : Place). p.node) is) slots)
 
-    place_off : (v : ℕ) → v < max_versions → LiesIn (entry_place catalog_node v) → ⊥
-    place_off v low (node, begins, ends) = let s = start_is in absurd (omega (arith, s, begins, low))
+    place_off : (n : NodeNo) (v : ℕ) → v < max_versions → LiesIn (entry_place n v) → ⊥
+    place_off n v low (node, begins, ends) = let s = start_is in absurd (omega (arith, s, begins, low))
 
     pub catalog_stays : (entries : List CatEntry) → CatalogIsLast older entries → CatalogIsLast newer entries
-    catalog_stays entries last v low = stays_last (entry_place catalog_node v) (bytes_at entries v) (place_off v low) (last v low)
+    catalog_stays entries last n v low = entry_stays n v (bytes_at entries v) low place_off (last n v low)
 
     -- the page that it spells is last
     pub page_is_last : (page : Page) → SpellsPage seen.bytes page → PageIsLast newer x page
     page_is_last page spells = subst (λ (b : List ℕ). IsLast newer (page_place x) b) spells.1 (is_last (page_place x) is)
 
     pub other_page : (y : Addr) (bytes : List ℕ) → (y ≡ x → ⊥) → IsLast older (page_place y) bytes → IsLast newer (page_place y) bytes
-    other_page y bytes other = stays_last (page_place y) bytes (page_off y other)
+    other_page y bytes other = page_stays y bytes (page_off y other)
 
     -- those of a try: none of this address has other bytes
     pub pages_stay : (pages : List SeenPage) → AreReadAs x seen.bytes pages → PagesAreLast older pages → PagesAreLast newer pages
@@ -238,7 +257,7 @@ module _ (older newer : List Entry) (seen : Seen) (one : shown_in newer ≡ seen
 
     pub cache_stays : (pages : List (Addr × Page)) → CacheIsLast older pages → CacheIsLast newer pages
     cache_stays [] last = tt
-    cache_stays (h ∷ pages) last = (stays_last (page_place h.0) (page_bytes h.1) (pages_off h.0) last.0, cache_stays pages last.1)
+    cache_stays (h ∷ pages) last = (page_stays h.0 (page_bytes h.1) (pages_off h.0) last.0, cache_stays pages last.1)
 
     place_given : (entries : List CatEntry) → SeesCatalog seen entries → (v : ℕ) → v < max_versions
         → GivesPlace seen (entry_place catalog_node v) (bytes_at entries v)
@@ -251,9 +270,9 @@ module _ (older newer : List Entry) (seen : Seen) (one : shown_in newer ≡ seen
 
     -- each place of it is what was read
     pub catalog_is_last : (entries : List CatEntry) → SeesCatalog seen entries → CatalogIsLast newer entries
-    catalog_is_last entries sees v low =
-        subst (λ (l : List Seen). FirstGives l (entry_place catalog_node v) (take 8 (bytes_at entries v)) (bytes_at entries v)) (sym one)
-        (inl (place_given entries sees v low, refl))
+    catalog_is_last entries sees n v low =
+        subst (λ (l : List Seen). FirstGives l (entry_place n v) (take 8 (bytes_at entries v)) (bytes_at entries v)) (sym one)
+        (inl (inr ((n, v, low, refl), place_given entries sees v low), refl))
 
   -- A count was read
 
@@ -261,16 +280,16 @@ module _ (older newer : List Entry) (seen : Seen) (one : shown_in newer ≡ seen
     low_page : (y : Addr) → LiesIn (page_place y) → ⊥
     low_page y (node, begins, ends) = absurd (omega (arith, ends, small))
 
-    low_place : (v : ℕ) → LiesIn (entry_place catalog_node v) → ⊥
-    low_place v (node, begins, ends) = absurd (omega (arith, ends, small))
+    low_place : (n : NodeNo) (v : ℕ) → v < max_versions → LiesIn (entry_place n v) → ⊥
+    low_place n v low (node, begins, ends) = absurd (omega (arith, ends, small))
 
     pub cache_by_count : (pages : List (Addr × Page)) → CacheIsLast older pages → CacheIsLast newer pages
     cache_by_count [] last = tt
-    cache_by_count (h ∷ pages) last = (stays_last (page_place h.0) (page_bytes h.1) (low_page h.0) last.0, cache_by_count pages last.1)
+    cache_by_count (h ∷ pages) last = (page_stays h.0 (page_bytes h.1) (low_page h.0) last.0, cache_by_count pages last.1)
 
     pub pages_by_count : (pages : List SeenPage) → PagesAreLast older pages → PagesAreLast newer pages
     pages_by_count [] last = tt
-    pages_by_count (p ∷ pages) last = (stays_last (page_place p.addr) p.bytes (low_page p.addr) last.0, pages_by_count pages last.1)
+    pages_by_count (p ∷ pages) last = (page_stays p.addr p.bytes (low_page p.addr) last.0, pages_by_count pages last.1)
 
     pub catalog_by_count : (entries : List CatEntry) → CatalogIsLast older entries → CatalogIsLast newer entries
-    catalog_by_count entries last v low = stays_last (entry_place catalog_node v) (bytes_at entries v) (low_place v) (last v low)
+    catalog_by_count entries last n v low = entry_stays n v (bytes_at entries v) low low_place (last n v low)

@@ -17,6 +17,7 @@ use Rattle.mn_page.specs.declared.page.Page.{Page}
 use Rattle.mn_page.specs.Forest.{entry_head, heads_in}
 use Rattle.mn_page.specs.Grammar.{IsEntry}
 use Rattle.mn_runs.specs.declared.entry.Entry.{Entry}
+use Rattle.mn_law.specs.Places.{catalog_node}
 use Rattle.mn_txn.specs.Laws.{ReadsAreShown}
 use Rattle.mn_txn.specs.Children.{child_reads}
 use Rattle.mn_txn.specs.ChildPlan.{BranchPlanned, IsVersion, MayHaveChild, SnapshotPlanned, child_try}
@@ -73,7 +74,7 @@ reads_last es nodes entries op child root slot right may room version' addr admi
     let early : version.0 < max_versions = omega (arith, room) in (
       page_last es entry.root root may.page it.root (subst (λ (a : Addr). PageIsLast es a root) at last),
       (
-        entry_last es entries version.0 entry catalog early is.there it,
+        entry_last es entries catalog_node version.0 entry catalog early is.there it,
         (unused_last es entries catalog room, (count_last es slot.node.0 slot.slot, tt)),
       ),
     )

@@ -34,7 +34,7 @@ use Rattle.mn_tree.specs.Tries.{ComeTo, EndsUnmet}
 use Rattle.mn_tree.specs.declared.stepped.Stepped.TheVariants as steps
 use Rattle.mn_runs.specs.declared.entry.Entry.{Entry}
 use Rattle.mn_runs.specs.Clients.{is_plan}
-use Rattle.mn_law.specs.Places.{catalog_node, number_size}
+use Rattle.mn_law.specs.Places.{number_size}
 use Rattle.mn_law.specs.Planned.{IsPlanned}
 use Rattle.mn_txn.specs.Attempt.{Attempt as Tried}
 use Rattle.mn_txn.specs.Tries.{IsWornPage}
@@ -186,12 +186,11 @@ pub record IsPageRead (a : Attempt) (n : NodeNo) (start : ℕ) (bytes : List ℕ
   pub start_is : slot_start page.addr.slot ≡ start
   pub bytes_are : take number_size page.bytes ≡ bytes
 
--- its catalog has the version's entry there, which begins so
-pub record IsEntryRead (entries : List CatEntry) (a : Attempt) (n : NodeNo) (start : ℕ)
-    (bytes : List ℕ) : Type 0 where
+-- its catalog, which each node has, has the version's entry there, which begins so
+pub record IsEntryRead (entries : List CatEntry) (a : Attempt) (start : ℕ) (bytes : List ℕ)
+    : Type 0 where
   pub entry : CatEntry
   pub there : slice_get entries a.version.0 ≡ Some entry
-  pub node_is : catalog_node ≡ n
   pub start_is : entry_start a.version.0 ≡ start
   pub bytes_are : take number_size (entry_bytes entry) ≡ bytes
 
@@ -205,7 +204,7 @@ pub record IsCountRead (a : Attempt) (n : NodeNo) (start : ℕ) (bytes : List �
 -- the try went by these bytes
 abbrev pub IsReadAt : List CatEntry → Attempt → NodeNo → ℕ → List ℕ → Type 0
 IsReadAt entries a n start bytes =
-    IsPageRead a n start bytes ⊎ IsEntryRead entries a n start bytes ⊎ IsCountRead a n start bytes
+    IsPageRead a n start bytes ⊎ IsEntryRead entries a start bytes ⊎ IsCountRead a n start bytes
 
 -- so it did by all that the plan compares
 abbrev pub ComparesRead : List CatEntry → Attempt → Mini → Type 0

@@ -6,6 +6,7 @@ use Rattle.std.specs.List.{AllByRecursion}
 use Rattle.std.specs.Option.{option_map_or}
 use Rattle.mn_base.specs.Store.{max_versions}
 use Rattle.mn_base.specs.declared.ids.Addr.{Addr}
+use Rattle.mn_base.specs.declared.ids.NodeNo.{NodeNo}
 use Rattle.mn_page.specs.declared.page.Page.{Page}
 use Rattle.mn_page.specs.declared.entry.CatEntry.{CatEntry}
 use Rattle.mn_page.specs.Grammar.{entry_bytes, page_bytes}
@@ -13,7 +14,7 @@ use Rattle.mn_page.specs.Space.{entry_size}
 use Rattle.mn_txn.specs.declared.seen.SeenPage.{SeenPage}
 use Rattle.mn_runs.specs.declared.entry.Entry.{Entry}
 use Rattle.mn_runs.specs.Seen.{Place}
-use Rattle.mn_law.specs.Places.{catalog_node, entry_place, number_size, page_place}
+use Rattle.mn_law.specs.Places.{entry_place, number_size, page_place}
 use Rattle.mn_law.specs.Shown.{ShowsLast}
 
 -- of the bytes of the place that begin as these do, the list has shown these last
@@ -47,7 +48,7 @@ AreReadAs addr bytes pages = AllByRecursion (λ p. p.addr ≡ addr → p.bytes �
 abbrev pub bytes_at : List CatEntry → ℕ → List ℕ
 bytes_at entries v = option_map_or entry_bytes (slice_get entries v) (replicate entry_size 0)
 
--- in the place of each version, the unused ones too
+-- on each node in the place of each version, the unused ones too
 abbrev pub CatalogIsLast : List Entry → List CatEntry → Type 0
 CatalogIsLast es entries =
-    (v : ℕ) → v < max_versions → IsLast es (entry_place catalog_node v) (bytes_at entries v)
+    (n : NodeNo) (v : ℕ) → v < max_versions → IsLast es (entry_place n v) (bytes_at entries v)

@@ -9,7 +9,7 @@ pub const COUNT_START: u32 = 16;
 
 pub const COUNT_SIZE: u32 = 8;
 
-/// The bytes of the catalog on node 0, and of an entry of it.
+/// The bytes of the catalog, and of an entry of it.
 const CATALOG_START: u32 = 64;
 
 const CATALOG_SIZE: u32 = 4_096;
@@ -21,7 +21,7 @@ const SLOTS_START: u32 = 20_480;
 
 pub const SLOT_SIZE: u32 = 1_024;
 
-/// The node that has the catalog.
+/// The node from which the catalog is read; each node has it.
 pub const CATALOG_NODE: NodeNo = NodeNo(0);
 
 /// A range of bytes of a node's space.

@@ -194,7 +194,7 @@ acts_there start store past e old known run i p is plan s holds =
     let on = catalog_continued start store past old known (plan.later ++ plan.entry ∷ []) plan.before [] past (plan.split ∙ sym (append_assoc plan.later (plan.entry ∷ []) plan.before)) refl (omega arith) p.client plan.planned.0 plan.planned.1 s holds in
     let agreed = agrees start past (plan.later ++ plan.entry ∷ []) plan.before (plan.split ∙ sym (append_assoc plan.later (plan.entry ∷ []) plan.before))
     (follows_before start past (plan.later ++ plan.entry ∷ []) plan.before (plan.split ∙ sym (append_assoc plan.later (plan.entry ∷ []) plan.before)) known.follows)
-    known.contents p.client i.mini.nodes made.0 i.mini.items made.1.inside (all_met (flat start past) 0 i.mini.items met) plan.planned.2.shown in
+    known.contents s holds whole.even.spaces p.client i.mini.nodes made.0 i.mini.items made.1.inside (all_met (flat start past) 0 i.mini.items met) plan.planned.2.shown in
     plan.planned.2.acts (flat start past) s (whole.even.spaces ∙ sym made.0) (holds_sizes (flat start past) s holds) holds on (record { agrees = agreed; met = met })
 
 -- what it does to that store

@@ -54,7 +54,7 @@ sees_entries memory store holds seen stands is = (is, few, sound.entries, bytes)
     spelled = holds.spelled ∙ laid_is holds.forest
 
     bytes : seen.bytes ≡ Rattle.mn_page.specs.Grammar.padded 4096 (Rattle.std.specs.List.flat_map Rattle.mn_page.specs.Grammar.entry_bytes holds.forest.entries)
-    bytes = at_place memory seen catalog_place is stands ∙ (ap (λ (m : List (List ℕ)). bytes_in (space_in m node_0) 64 4096) spelled ∙ catalog_stands holds.forest sound)
+    bytes = at_place memory seen catalog_place is stands ∙ (ap (λ (m : List (List ℕ)). bytes_in (space_in m node_0) 64 4096) spelled ∙ catalog_stands holds.forest sound node_0 sound.nodes.0)
 
 -- a catalog that was seen there is the forest's
 pub sees_those : (memory : List (List ℕ)) (store : Store) (holds : Holds memory store) (seen : Seen) (entries : List CatEntry) → StandsIn memory seen → SeesCatalog seen entries → entries ≡ holds.forest.entries

@@ -6,7 +6,7 @@ use Rattle.mn_base.specs.Ranges.{ranges_meet}
 use Rattle.mn_base.specs.declared.ids.NodeNo.{NodeNo}
 use Rattle.mn_base.specs.declared.ids.Addr.{Addr}
 use Rattle.mn_runs.specs.Seen.{Place}
-use Rattle.mn_law.specs.Places.{page_place, entry_place, count_place, catalog_node, IsPagePlace, IsEntryPlace, IsCountPlace, IsNumbered, place_range}
+use Rattle.mn_law.specs.Places.{page_place, entry_place, count_place, IsPagePlace, IsEntryPlace, IsCountPlace, IsNumbered, place_range}
 use Rattle.mn_law.specs.Planned.{IsWholePlace}
 
 -- one place lies below the other
@@ -43,8 +43,8 @@ versions a b = by (nat_lt a b) refl (nat_lt b a) refl
 page_at : (p : Place) (a : Addr) → p ≡ page_place a → (p.start ≡ 20480 + 1024 * a.slot) × (p.length ≡ 1024) × (p.node ≡ a.node)
 page_at p a e = (ap (λ (x : Place). x.start) e, ap (λ (x : Place). x.length) e, ap (λ (x : Place). x.node) e)
 
-entry_at : (p : Place) (v : ℕ) → p ≡ entry_place catalog_node v → (p.start ≡ 64 + 64 * v) × (p.length ≡ 64)
-entry_at p v e = (ap (λ (x : Place). x.start) e, ap (λ (x : Place). x.length) e)
+entry_at : (p : Place) (n : NodeNo) (v : ℕ) → p ≡ entry_place n v → (p.start ≡ 64 + 64 * v) × (p.length ≡ 64) × (p.node ≡ n)
+entry_at p n v e = (ap (λ (x : Place). x.start) e, ap (λ (x : Place). x.length) e, ap (λ (x : Place). x.node) e)
 
 count_at : (p : Place) (n : NodeNo) → p ≡ count_place n → (p.start ≡ 16) × (p.length ≡ 8)
 count_at p n e = (ap (λ (x : Place). x.start) e, ap (λ (x : Place). x.length) e)
@@ -61,28 +61,28 @@ place_cases p q (inl (a, few, is)) (inl (b, that)) node = by (slots a.slot b.slo
     by : (a.slot ≡ b.slot) ⊎ ((20480 + 1024 * a.slot + 1024 ≤ 20480 + 1024 * b.slot) ⊎ (20480 + 1024 * b.slot + 1024 ≤ 20480 + 1024 * a.slot)) → (p ≡ q) ⊎ AreApart p q
     by (inl same) = let x = page_at p a is in let y = page_at q b that in inl (is ∙ (same_page a b (sym x.2 ∙ (node ∙ y.2)) same ∙ sym that))
     by (inr (inl low)) = let x = page_at p a is in let y = page_at q b that in let s = x.0 in let n = x.1 in let t = y.0 in inr (inl (omega (arith, s, n, t)))
-    by (inr (inr high)) = let x = page_at p a is in let y = page_at q b that in let s = x.0 in let t = y.0 in let m = y.1 in inr (inr (omega (arith, s, t, m)))
-place_cases p q (inl (a, few, is)) (inr (inl (w, low, that))) node =
-    let x = page_at p a is in let y = entry_at q w that in let s = x.0 in let t = y.0 in let m = y.1 in inr (inr (omega (arith, s, t, m)))
+    by (inr (inr high)) = let x = page_at p a is in let y = page_at q b that in let s = x.0 in let t = y.0 in let k = y.1 in inr (inr (omega (arith, s, t, k)))
+place_cases p q (inl (a, few, is)) (inr (inl (m, w, low, that))) node =
+    let x = page_at p a is in let y = entry_at q m w that in let s = x.0 in let t = y.0 in let k = y.1 in inr (inr (omega (arith, s, t, k)))
 place_cases p q (inl (a, few, is)) (inr (inr (n, that))) node =
-    let x = page_at p a is in let y = count_at q n that in let s = x.0 in let t = y.0 in let m = y.1 in inr (inr (omega (arith, s, t, m)))
-place_cases p q (inr (v, low, is)) (inl (b, that)) node =
-    let x = entry_at p v is in let y = page_at q b that in let s = x.0 in let n = x.1 in let t = y.0 in inr (inl (omega (arith, s, n, t)))
-place_cases p q (inr (v, low, is)) (inr (inl (w, low', that))) node = by (versions v w)
+    let x = page_at p a is in let y = count_at q n that in let s = x.0 in let t = y.0 in let k = y.1 in inr (inr (omega (arith, s, t, k)))
+place_cases p q (inr (n, v, low, is)) (inl (b, that)) node =
+    let x = entry_at p n v is in let y = page_at q b that in let s = x.0 in let k = x.1 in let t = y.0 in inr (inl (omega (arith, s, k, t)))
+place_cases p q (inr (n, v, low, is)) (inr (inl (m, w, low', that))) node = by (versions v w)
   where
     by : (v ≡ w) ⊎ ((64 + 64 * v + 64 ≤ 64 + 64 * w) ⊎ (64 + 64 * w + 64 ≤ 64 + 64 * v)) → (p ≡ q) ⊎ AreApart p q
-    by (inl same) = inl (is ∙ (ap (λ (k : ℕ). entry_place catalog_node k) same ∙ sym that))
-    by (inr (inl less)) = let x = entry_at p v is in let y = entry_at q w that in let s = x.0 in let n = x.1 in let t = y.0 in inr (inl (omega (arith, s, n, t)))
-    by (inr (inr more)) = let x = entry_at p v is in let y = entry_at q w that in let s = x.0 in let t = y.0 in let m = y.1 in inr (inr (omega (arith, s, t, m)))
-place_cases p q (inr (v, low, is)) (inr (inr (n, that))) node =
-    let x = entry_at p v is in let y = count_at q n that in let s = x.0 in let t = y.0 in let m = y.1 in inr (inr (omega (arith, s, t, m)))
+    by (inl same) = let x = entry_at p n v is in let y = entry_at q m w that in inl (is ∙ (ap (entry_place n) same ∙ (ap (λ (k : NodeNo). entry_place k w) (sym x.2 ∙ (node ∙ y.2)) ∙ sym that)))
+    by (inr (inl less)) = let x = entry_at p n v is in let y = entry_at q m w that in let s = x.0 in let k = x.1 in let t = y.0 in inr (inl (omega (arith, s, k, t)))
+    by (inr (inr more)) = let x = entry_at p n v is in let y = entry_at q m w that in let s = x.0 in let t = y.0 in let k = y.1 in inr (inr (omega (arith, s, t, k)))
+place_cases p q (inr (n, v, low, is)) (inr (inr (m, that))) node =
+    let x = entry_at p n v is in let y = count_at q m that in let s = x.0 in let t = y.0 in let k = y.1 in inr (inr (omega (arith, s, t, k)))
 
 -- a place with a number is no count
 pub numbered_no_count : (p : Place) → IsNumbered p → IsCountPlace p → ⊥
 numbered_no_count p (inl (a, few, is)) (n, that) = let x = page_at p a is in let y = count_at p n that in let s = x.0 in let t = y.0 in absurd (omega (arith, s, t))
-numbered_no_count p (inr (v, low, is)) (n, that) = let x = entry_at p v is in let y = count_at p n that in let s = x.0 in let t = y.0 in absurd (omega (arith, s, t))
+numbered_no_count p (inr (m, v, low, is)) (n, that) = let x = entry_at p m v is in let y = count_at p n that in let s = x.0 in let t = y.0 in absurd (omega (arith, s, t))
 
 -- it lies in the space, with room for its number
 pub numbered_fits : (p : Place) → IsNumbered p → (p.start + p.length ≤ 4214784) × (8 ≤ p.length)
 numbered_fits p (inl (a, few, is)) = let x = page_at p a is in let s = x.0 in let n = x.1 in (omega (arith, s, n, few), omega (arith, n))
-numbered_fits p (inr (v, low, is)) = let x = entry_at p v is in let s = x.0 in let n = x.1 in (omega (arith, s, n, low), omega (arith, n))
+numbered_fits p (inr (m, v, low, is)) = let x = entry_at p m v is in let s = x.0 in let n = x.1 in (omega (arith, s, n, low), omega (arith, n))

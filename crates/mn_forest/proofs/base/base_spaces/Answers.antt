@@ -18,11 +18,11 @@ loop-node-preserved c =
 pub returns-clause-memory : goal.returns-clause-memory
 returns-clause-memory c =
     let last : c.loop-node.node ≡ c.args.nodes = omega arith in
-    c.from_vec-2.ensures ∙ c.loop-node.invariant ∙ ap (λ (k : ℕ). map (base_of c.args.nodes) (range_with_len 0 k)) last ∙ spaces_are c.args.nodes c.requires.some
+    c.from_vec-2.ensures ∙ c.loop-node.invariant ∙ ap (λ (k : ℕ). map (base_of c.args.nodes) (range_with_len 0 k)) last ∙ spaces_are c.args.nodes
 
 pub returns-clause-store : goal.returns-clause-store
 returns-clause-store c =
     let last : c.loop-node.node ≡ c.args.nodes = omega arith in
     let is : c.from_vec-2.result ≡ base_memory c.args.nodes =
-    c.from_vec-2.ensures ∙ c.loop-node.invariant ∙ ap (λ (k : ℕ). map (base_of c.args.nodes) (range_with_len 0 k)) last ∙ spaces_are c.args.nodes c.requires.some in
+    c.from_vec-2.ensures ∙ c.loop-node.invariant ∙ ap (λ (k : ℕ). map (base_of c.args.nodes) (range_with_len 0 k)) last ∙ spaces_are c.args.nodes in
     subst (λ (m : List (List ℕ)). Holds m empty_store) (sym is) (base_holds c.args.nodes c.requires.some c.requires.few)

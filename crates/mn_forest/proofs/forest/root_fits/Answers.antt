@@ -1,5 +1,4 @@
-use Rattle.std.proofs.Common.{◌≡◌, Option, Some, None, ap, sym, ◌∙◌}
-use Rattle.mn_page.specs.declared.entry.CatEntry.{CatEntry}
+use Rattle.std.proofs.Common.{◌≡◌, Some, None, sym, ◌∙◌}
 use Rattle.mn_forest.specs.Rules.{entry_of}
 use Rattle.mn_flat.proofs.Lists.{read_or}
 use Rattle.mn_forest.proofs.Fronts.{root_of_entry, root_of_none}

@@ -1,4 +1,4 @@
-use Rattle.std.proofs.Common.{sym, subst, ◌∙◌}
+use Rattle.std.proofs.Common.{sym, subst}
 use Rattle.std.proofs.lemmas.Result.{err_from_is_err_and}
 use Rattle.mn_forest.specs.Rules.{OfHeader, OfCount, HasHeader, HasCount}
 use Rattle.mn_forest.specs.Progress.{SaysFailed}

@@ -1,5 +1,4 @@
-use Rattle.std.proofs.Common.{◌≤◌, arith, ◌∙◌}
-use Rattle.mn_page.specs.Grammar.{height_of}
+use Rattle.std.proofs.Common.{arith, ◌∙◌}
 use Rattle.mn_forest.proofs.Children.{so_many_children}
 use Rattle.mn_forest.proofs.pages.child_count.Goals as goal
 

@@ -1,4 +1,4 @@
-use Rattle.std.proofs.Common.{◌≡◌, ◌-◌, ◌+◌, ℕ, Some, subst, arith, slice_get, ◌∙◌}
+use Rattle.std.proofs.Common.{◌≡◌, ◌-◌, ℕ, Some, subst, arith, slice_get, ◌∙◌}
 use Rattle.mn_page.specs.Forest.{children_of}
 use Rattle.mn_forest.proofs.Children.{low_of_first, low_of_next}
 use Rattle.mn_forest.proofs.pages.child_low.Goals as goal

@@ -1,4 +1,4 @@
-use Rattle.std.proofs.Common.{◌≡◌, Option, Some, sym, subst}
+use Rattle.std.proofs.Common.{◌≡◌, Option, Some, subst}
 use Rattle.mn_base.specs.declared.ids.Addr.{Addr}
 use Rattle.mn_forest.specs.Rules.{StandsAt}
 use Rattle.mn_forest.proofs.Children.{addr_at}

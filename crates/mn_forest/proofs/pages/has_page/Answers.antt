@@ -1,4 +1,4 @@
-use Rattle.std.proofs.Common.{◌≡◌, ◌<◌, ◌≤◌, ℕ, List, replicate, subst, arith}
+use Rattle.std.proofs.Common.{◌<◌, ◌≤◌, ℕ, List, subst, arith}
 use Rattle.std.specs.Prelude.{MatchBool}
 use Rattle.mn_page.specs.Grammar.{IsFree}
 use Rattle.mn_forest.specs.Rules.{count_at}

@@ -28,7 +28,7 @@ returns-clause-planned c =
     let r = c.args.tried in
     let p = c.args.placing in
     let known = c.tries_are_known.ensures in
-    let t = placing_state (tried_state false r) p in
+    let t = placing_state (tried_state false r p.slots.now) p in
     IfOk-weaker c.plan.result (λ mini. IsPlanOf t mini) (DonePlanned r p)
     (λ mini q kept a may. done_planned kept r p a may known.read known.put c.attempts_stand_in_order.ensures c.done_is_planned.ensures mini q)
     (plan_tells c.write_all.new.txn t c.plan.result (c.in_ok-write_all.ensures ∙ ap (λ (u : State). placing_state u p) c.in_ok-txn.ensures) c.plan.ensures.planned c.plan.ensures.unworn)
@@ -38,7 +38,7 @@ returns-clause-made c =
     let r = c.args.tried in
     let p = c.args.placing in
     let known = c.tries_are_known.ensures in
-    let t = placing_state (tried_state false r) p in
+    let t = placing_state (tried_state false r p.slots.now) p in
     IfOk-weaker c.plan.result (λ mini. IsPlanOf t mini) (IsDonePlan r p)
     (λ mini q kept a may. done_made kept r p a may known.read known.put c.attempts_stand_in_order.ensures mini q)
     (plan_tells c.write_all.new.txn t c.plan.result (c.in_ok-write_all.ensures ∙ ap (λ (u : State). placing_state u p) c.in_ok-txn.ensures) c.plan.ensures.planned c.plan.ensures.unworn)
@@ -47,11 +47,11 @@ pub returns-clause-refused : goal.returns-clause-refused
 returns-clause-refused c =
     let r = c.args.tried in
     let p = c.args.placing in
-    let t = placing_state (tried_state false r) p in
+    let t = placing_state (tried_state false r p.slots.now) p in
     IfErr-weaker c.plan.result (RefusesPlan t) (RefusesDone r p) why
     (refusal_tells c.write_all.new.txn t c.plan.result (c.in_ok-write_all.ensures ∙ ap (λ (u : State). placing_state u p) c.in_ok-txn.ensures) c.plan.ensures.refused)
   where
-    why : (error : PlanError) → RefusesPlan (placing_state (tried_state false c.args.tried) c.args.placing) error → RefusesDone c.args.tried c.args.placing error
+    why : (error : PlanError) → RefusesPlan (placing_state (tried_state false c.args.tried c.args.placing.slots.now) c.args.placing) error → RefusesDone c.args.tried c.args.placing error
     why NoMemory q = tt
     why (Worn node start) q = λ kept a may.
         let known = c.tries_are_known.ensures in

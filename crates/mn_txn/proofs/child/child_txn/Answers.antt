@@ -1,4 +1,5 @@
 use Rattle.std.proofs.Common.{◌≡◌, get_or, length, ap, ◌∙◌}
+use Rattle.std.specs.List.{range_with_len}
 use Rattle.std.proofs.lemmas.Option.{get_or_from_slice_get}
 use Rattle.mn_base.specs.declared.ids.VersionNo.{VersionNo}
 use Rattle.mn_page.specs.declared.entry.CatEntry.{CatEntry}
@@ -18,6 +19,6 @@ returns c = λ e there.
     let same : d ≡ e = c.index-used-from.is ∙ (ap (λ k. get_or used k d) c.from.ensures ∙ get_or_from_slice_get used v.0 e d there) in
     c.in_ok-write_count.ensures
     ∙ ap (λ (t : State). with_count t slot) (c.in_ok-write_entries.ensures
-    ∙ ap (λ (t : State). with_entries t es) (c.in_ok-write_pages.ensures
+    ∙ ap (λ (t : State). with_entries t es (range_with_len 0 c.args.nodes)) (c.in_ok-write_pages.ensures
     ∙ (ap (λ (t : State). with_pages t d.root root n slot) c.in_ok-txn.ensures
     ∙ ap (λ (x : CatEntry). with_pages (read_state c.args.nodes v x root n slot) x.root root n slot) same)))

@@ -1,22 +1,18 @@
-use Rattle.std.proofs.Common.{◌+◌, ◌*◌, ◌∷◌, drop, refl, sym, ap, ◌∙◌}
-use Rattle.std.proofs.lemmas.List.{at_drop_more}
-use Rattle.mn_page.specs.Grammar.{entry_bytes}
-use Rattle.mn_catalog.specs.Versions.{Numbered}
-use Rattle.mn_plans.specs.Growth.{node_no}
+use Rattle.std.proofs.Common.{◌≡◌, ℕ, suc, ◌+◌, ◌-◌, ◌<◌, ◌∷◌, List, sym, ap, ◌∙◌, arith}
+use Rattle.std.specs.List.{range_with_len}
 use Rattle.mn_txn.specs.State.{State}
 use Rattle.mn_txn.specs.ChildPlan.{with_entries}
-use Rattle.mn_txn.proofs.ChildTxn.{written_on}
 use Rattle.mn_txn.proofs.child.write_entries.Goals as goal
+
+range_on : (a k : ℕ) → a < k → range_with_len a (k - a) ≡ a ∷ range_with_len (a + 1) (k - (a + 1))
+range_on a k low = let more : k - a ≡ suc (k - (a + 1)) = omega arith in ap (range_with_len a) more
 
 pub loop-number-preserved : goal.loop-number-preserved
 loop-number-preserved c =
     let es = c.args.entries.now in
-    let i = c.loop-number.number-index in
-    let x = c.loop-number-item.result in
     let t = c.loop-number.txn in
-    let start = 64 + 64 * (x.0).0 in
-    let written = written_on c.write.new.self t t (node_no 0) c.entry_start.result start c.in_ok-bytes.bytes (entry_bytes x.1) c.in_ok-write.ensures.kept refl c.entry_start.ensures c.in_ok-bytes.ensures in
+    let n = c.loop-number.number in
+    let k = c.args.nodes in
     c.loop-number.invariant
-    ∙ (at_drop_more (with_entries t) es i x c.loop-number-test.true
-    ∙ (ap (λ (y : Numbered). with_entries t (y ∷ drop (i + 1) es)) (sym c.loop-number-item.is)
-    ∙ ap (λ (u : State). with_entries u (drop (i + 1) es)) (sym written)))
+    ∙ (ap (λ (ns : List ℕ). with_entries t es ns) (range_on n k c.loop-number-test.true)
+    ∙ ap (λ (u : State). with_entries u es (range_with_len (n + 1) (k - (n + 1)))) (sym c.in_ok-write_entries_on.ensures))

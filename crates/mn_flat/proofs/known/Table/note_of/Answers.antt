@@ -1,4 +1,4 @@
-use Rattle.std.proofs.Common.{◌≡◌, Some, cond, subst, ap, ◌∙◌}
+use Rattle.std.proofs.Common.{Some, cond, subst, ap, ◌∙◌}
 use Rattle.std.specs.HashMap.{get}
 use Rattle.mn_flat.specs.declared.known.IdKey.{IdKey}
 use Rattle.mn_flat.specs.declared.known.Known.{Known}

@@ -1,5 +1,5 @@
 use Rattle.std.proofs.Common.{◌≡◌, false, true}
-use Rattle.mn_forest.proofs.Noting.{notes_one, notes_skip, serving_so, missing_so, idle_so}
+use Rattle.mn_forest.proofs.Noting.{notes_one, notes_skip, serving_so, idle_so}
 use Rattle.mn_forest.proofs.pages.Names.note_version.Goals as goal
 
 pub returns-then-not-serves : goal.returns-then-not-serves
