@@ -4,7 +4,11 @@
 #[cfg(test)]
 mod disks;
 #[cfg(test)]
+mod histories;
+#[cfg(test)]
 mod program;
+#[cfg(test)]
+mod races;
 #[cfg(test)]
 mod rows;
 #[cfg(test)]

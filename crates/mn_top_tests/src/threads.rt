@@ -1,5 +1,6 @@
 //! Scripts that are run on threads: what overlaps, and when recovery coordinators work.
-use crate::program::{Given, Ran, disk_of, first_wrong, fresh_disks, play, replay, run_gated};
+use crate::histories::{has_line, has_operation, is_its_history};
+use crate::program::{Given, Ran, disk_of, first_wrong, fresh_disks, play, run_gated};
 use crate::rows::SCRIPTS_OF_ONE_CLIENT;
 use mn_base::{ClientNo, Gate, NodeNo, OpenGate};
 use mn_memdisk::{MeetDisk, Meeting};
@@ -213,76 +214,6 @@ const OPERATIONS: [(&str, &str); 12] = [
 const DIES: &str =
     "nodes 2\nrecoverers 1\nclient s first\nput main k1 v\nput main k2 v\nput main k3 v\nput main k4 v\nput main k5 v\nput main k6 v\nput main k7 v\nput main k8 v\nput main k9 v\nclient a\ntx main put k1 x ; put k5 x\nclient b\nput main k5 y\nput main k5 z\nkill a 1 votes ";
 
-/// The operation that a line of a report tells, if it is a line of its history.
-fn ranked(line: &str) -> Option<&str> {
-    let (rank, operation) = line.split_once(' ')?;
-    match rank.parse::<u32>() {
-        Ok(_rank) => Some(operation),
-        Err(_none) => None,
-    }
-}
-
-/// The script's line of an operation.
-fn line_of(operation: &str) -> &'static str {
-    for (name, line) in OPERATIONS {
-        if name == operation {
-            return line;
-        }
-    }
-    "unknown\n"
-}
-
-/// A script of one client that does what the history of a report lists, in its order.
-fn one_after_another(alloc: Global, report: &str) -> Result<String, Fail> {
-    let mut script = String::from_str(alloc, "nodes 2\nclient r\n")?;
-    for line in report.lines() {
-        if let Some(operation) = ranked(line) {
-            script.push_str(line_of(operation))?;
-        }
-    }
-    Ok(script)
-}
-
-/// The line of a report that tells of `main`.
-fn line_of_main(report: &str) -> &str {
-    for line in report.lines() {
-        if line.starts_with("version main ") {
-            return line;
-        }
-    }
-    ""
-}
-
-/// Whether the history of a report lists an operation.
-fn has_operation(report: &str, operation: &str) -> bool {
-    for line in report.lines() {
-        if ranked(line) == Some(operation) {
-            return true;
-        }
-    }
-    false
-}
-
-/// Whether a report has this line.
-fn has_line(report: &str, wanted: &str) -> bool {
-    for line in report.lines() {
-        if line == wanted {
-            return true;
-        }
-    }
-    false
-}
-
-/// Whether one client that does what the history of a report lists leaves the same.
-fn is_its_history<T: Threads + Wait + Sync + AllocGlobal>(
-    rt: &T,
-    report: &str,
-) -> Result<bool, Fail> {
-    let script = one_after_another(rt.alloc(), report)?;
-    let again = replay(rt, script.as_str(), fresh_disks(rt.alloc(), 2)?)?;
-    Ok(again.outcome.status == 0 && line_of_main(again.text()) == line_of_main(report))
-}
-
 /// Whether a run in which client a dies behind so many votes ends well, and its history holds what
 /// client a did exactly where that was committed.
 fn is_recovered<T: Threads + Wait + Sync + AllocGlobal>(rt: &T, votes: &str) -> Result<bool, Fail> {
@@ -292,7 +223,7 @@ fn is_recovered<T: Threads + Wait + Sync + AllocGlobal>(rt: &T, votes: &str) -> 
     let report = ran.text();
     let is_whole = ran.outcome.status == 0 && report.ends_with("\nend\n");
     let is_told = has_line(report, "doubt a 1 committed") == has_operation(report, "a 1");
-    Ok(is_whole && is_told && is_its_history(rt, report)?)
+    Ok(is_whole && is_told && is_its_history(rt, &OPERATIONS, report)?)
 }
 
 #[test]
