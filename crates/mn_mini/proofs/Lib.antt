@@ -12,3 +12,7 @@ pub mod Fits
 pub mod SoundParts
 pub mod Layers
 mod TwoVotes
+pub mod Short
+pub mod ShortAlike
+pub mod ShortSteps
+mod ShortLists

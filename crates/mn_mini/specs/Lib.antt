@@ -5,6 +5,8 @@ pub mod Reads
 pub mod Refusal
 pub mod Flat
 pub mod Node
+pub mod Short
+pub mod Shorten
 pub mod Sound
 pub mod Laws
 pub mod RecordGrammar
