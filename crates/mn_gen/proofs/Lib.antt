@@ -1,0 +1,5 @@
+pub mod Balances
+pub mod Doing
+pub mod Worked
+pub mod Grammar
+pub mod Loops

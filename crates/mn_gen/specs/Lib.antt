@@ -1,0 +1,4 @@
+pub mod Draws
+pub mod Accounts
+pub mod Work
+pub mod Generated
