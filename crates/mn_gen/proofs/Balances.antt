@@ -1,5 +1,5 @@
 -- Bounds of balances.
-use Rattle.std.proofs.Common.{◌≡◌, ℕ, zero, suc, ◌+◌, ◌-◌, ◌%◌, ◌≤◌, List, [], ◌∷◌, min, get_or, set, replicate, arith}
+use Rattle.std.proofs.Common.{ℕ, zero, suc, ◌+◌, ◌-◌, ◌≤◌, List, [], ◌∷◌, get_or, set, replicate, arith}
 use Rattle.mn_gen.specs.declared.draws.Transfer.{Transfer}
 use Rattle.mn_gen.specs.Draws.{amount_of, moved}
 use Rattle.mn_gen.specs.Work.{AreAtMost}

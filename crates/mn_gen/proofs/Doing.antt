@@ -1,5 +1,5 @@
 -- What a client does next, by cases.
-use Rattle.std.proofs.Common.{◌≡◌, ℕ, zero, suc, ◌+◌, ◌-◌, ◌%◌, ◌≤◌, ◌<◌, Bool, true, false, ◌==◌, cond, List, [], ◌∷◌, length, get_or, refl, sym, subst, arith, ap, ap₂, ◌∙◌, eq-eqb, ne_eqb, codes, decimal, rules, Result, Ok, Err, OnOk}
+use Rattle.std.proofs.Common.{◌≡◌, ℕ, zero, suc, ◌+◌, ◌-◌, ◌%◌, ◌≤◌, ◌<◌, Bool, true, false, ◌==◌, cond, List, [], ◌∷◌, length, get_or, refl, sym, arith, ap, ap₂, ◌∙◌, eq-eqb, ne_eqb, codes, decimal, rules, Result, Ok, Err, OnOk}
 use Rattle.std.specs.List.{AllByRecursion}
 use Rattle.std.proofs.lemmas.Fmt.{IsAscii-decimal, length-decimal-le}
 use Rattle.std.proofs.lemmas.List.Elements.{recursion_from_All}
@@ -113,11 +113,16 @@ pub steps-right : (client : ℕ) (t : Transfer) (xs : List ℕ) → client < 8 �
     → AllByRecursion IsStep (steps_of client t xs)
 steps-right client t xs c f o few all =
     let from = key-right client t.from c f in
-    let to = key-right client t.to c o in
-    ((from, value-right (get_or xs t.from 0) (omega (arith, all t.from))),
-    ((to, value-right (get_or xs t.to 0) (omega (arith, all t.to))),
-    ((from, value-right (get_or xs t.from 0 - t.amount) (omega (arith, all t.from))),
-    ((to, value-right (get_or xs t.to 0 + t.amount) (omega (arith, all t.to))), tt))))
+    let to = key-right client t.to c o in (
+      (from, value-right (get_or xs t.from 0) (omega (arith, all t.from))),
+      (
+        (to, value-right (get_or xs t.to 0) (omega (arith, all t.to))),
+        (
+          (from, value-right (get_or xs t.from 0 - t.amount) (omega (arith, all t.from))),
+          ((to, value-right (get_or xs t.to 0 + t.amount) (omega (arith, all t.to))), tt),
+        ),
+      ),
+    )
 
 pub transfer-right : (version : List ℕ) (client state : ℕ) (xs : List ℕ) → IsOp (scan_of version) → client < 8 → AreAtMost 10000 xs
     → IsOp (Tx version (steps_of client (transfer_of state xs) xs))

@@ -1,6 +1,6 @@
 -- Generated scripts are in the grammar.
-use Rattle.std.proofs.Common.{◌≡◌, ℕ, ◌+◌, ◌%◌, ◌≤◌, ◌<◌, Bool, true, false, ◌&&◌, not, List, [], ◌∷◌, ◌++◌, length, map, flat_map, refl, arith, rules, bytes_eq, codes, sym, subst, ap, ◌∙◌}
-use Rattle.std.specs.List.{AllByRecursion, IsDistinct, list_all}
+use Rattle.std.proofs.Common.{◌≡◌, ℕ, ◌+◌, ◌≤◌, ◌<◌, Bool, true, false, ◌&&◌, not, List, [], ◌∷◌, ◌++◌, map, flat_map, refl, arith, rules, bytes_eq, codes, sym, subst, ap, ◌∙◌}
+use Rattle.std.specs.List.{AllByRecursion, IsDistinct}
 use Rattle.mn_base.specs.Name.{IsName}
 use Rattle.mn_base.specs.declared.op.Op.TheVariants.{Snapshot}
 use Rattle.mn_script.specs.declared.elements.ScriptClient.{ScriptClient}
@@ -62,14 +62,34 @@ opening-right client account c a = (search rules, omega arith, omega arith, ((ke
 
 openings-right : (client : ℕ) → client < 8 → AllByRecursion IsOp (openings client)
 openings-right client c =
-    let one = λ (account : ℕ) (a : account < 8). opening-right client account c a in
-    (one 0 (omega arith), (one 1 (omega arith), (one 2 (omega arith), (one 3 (omega arith),
-    (one 4 (omega arith), (one 5 (omega arith), (one 6 (omega arith), (one 7 (omega arith), tt))))))))
+    let one = λ (account : ℕ) (a : account < 8). opening-right client account c a in (
+      one 0 (omega arith),
+      (
+        one 1 (omega arith),
+        (
+          one 2 (omega arith),
+          (
+            one 3 (omega arith),
+            (one 4 (omega arith), (one 5 (omega arith), (one 6 (omega arith), (one 7 (omega arith), tt)))),
+          ),
+        ),
+      ),
+    )
 
 all-openings : AllByRecursion (λ client. AllByRecursion IsOp (openings client)) eight
-all-openings =
-    (openings-right 0 (omega arith), (openings-right 1 (omega arith), (openings-right 2 (omega arith), (openings-right 3 (omega arith),
-    (openings-right 4 (omega arith), (openings-right 5 (omega arith), (openings-right 6 (omega arith), (openings-right 7 (omega arith), tt))))))))
+all-openings = (
+  openings-right 0 (omega arith),
+  (
+    openings-right 1 (omega arith),
+    (
+      openings-right 2 (omega arith),
+      (
+        openings-right 3 (omega arith),
+        (openings-right 4 (omega arith), (openings-right 5 (omega arith), (openings-right 6 (omega arith), (openings-right 7 (omega arith), tt)))),
+      ),
+    ),
+  ),
+)
 
 opener-right : IsClient opener
 opener-right = (search rules, omega arith, each-append IsOp (flat_map openings eight) (Snapshot (codes "main") (codes "w") ∷ []) (each-flat IsOp openings eight all-openings) (search rules, tt))
@@ -83,11 +103,28 @@ closer-right : IsClient closer
 closer-right = (search rules, omega arith, (search rules, (search rules, tt)))
 
 all-right : (number : ℕ) → AllByRecursion IsClient (clients_of number)
-all-right number =
-    (opener-right, (mover-right number 0 (omega arith) (search rules), (mover-right number 1 (omega arith) (search rules),
-    (mover-right number 2 (omega arith) (search rules), (mover-right number 3 (omega arith) (search rules),
-    (mover-right number 4 (omega arith) (search rules), (mover-right number 5 (omega arith) (search rules),
-    (mover-right number 6 (omega arith) (search rules), (mover-right number 7 (omega arith) (search rules), (closer-right, tt))))))))))
+all-right number = (
+  opener-right,
+  (
+    mover-right number 0 (omega arith) (search rules),
+    (
+      mover-right number 1 (omega arith) (search rules),
+      (
+        mover-right number 2 (omega arith) (search rules),
+        (
+          mover-right number 3 (omega arith) (search rules),
+          (
+            mover-right number 4 (omega arith) (search rules),
+            (
+              mover-right number 5 (omega arith) (search rules),
+              (mover-right number 6 (omega arith) (search rules), (mover-right number 7 (omega arith) (search rules), (closer-right, tt))),
+            ),
+          ),
+        ),
+      ),
+    ),
+  ),
+)
 
 clients-right : (number : ℕ) → AreClients (clients_of number)
 clients-right number =
@@ -105,10 +142,13 @@ clients-right number =
 
 points-right : (nodes number : ℕ) → 1 ≤ nodes → AllByRecursion (IsPoint nodes (clients_of number)) (points_of nodes)
 points-right nodes number some =
-    let l = λ (client : ℕ). worked-length client (state_at number client) 400 in
-    ((omega arith, (omega arith, omega arith, omega (arith, l 1))),
-    ((omega arith, (omega arith, omega arith, omega (arith, l 2))),
-    ((omega arith, (omega arith, omega arith, omega (arith, l 3))), tt)))
+    let l = λ (client : ℕ). worked-length client (state_at number client) 400 in (
+      (omega arith, (omega arith, omega arith, omega (arith, l 1))),
+      (
+        (omega arith, (omega arith, omega arith, omega (arith, l 2))),
+        ((omega arith, (omega arith, omega arith, omega (arith, l 3))), tt),
+      ),
+    )
 
 pub generated-right : (nodes number : ℕ) → 1 ≤ nodes → nodes ≤ 8 → IsScript (generated nodes number)
 unfolding generated

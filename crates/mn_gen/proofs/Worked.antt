@@ -1,5 +1,5 @@
 -- The first operations of a client.
-use Rattle.std.proofs.Common.{◌≡◌, ℕ, zero, suc, ◌+◌, ◌*◌, ◌/◌, ◌%◌, ◌≤◌, ◌<◌, Bool, true, false, ◌==◌, cond, List, [], ◌∷◌, ◌++◌, length, get_or, refl, sym, subst, arith, ap, ap₂, ◌∙◌, eqb-true, length-append, add-one}
+use Rattle.std.proofs.Common.{◌≡◌, ℕ, zero, suc, ◌+◌, ◌*◌, ◌/◌, ◌%◌, ◌≤◌, ◌<◌, Bool, true, false, ◌==◌, cond, List, [], ◌∷◌, ◌++◌, length, refl, sym, arith, ap, ap₂, ◌∙◌, eqb-true, length-append, add-one}
 use Rattle.std.proofs.lemmas.Bool.{eqb-false}
 use Rattle.std.specs.List.{AllByRecursion, sum_by}
 use Rattle.std.proofs.lemmas.List.Sums.{sum_by-append}
@@ -39,9 +39,10 @@ module _ (client state : ℕ) where
       → op ≡ (done client (n + 1) books).op → after ≡ (done client (n + 1) books).books
       → (ops ++ op ∷ [] ≡ (worked client state (n + 1)).ops) × (after ≡ (worked client state (n + 1)).books)
   worked-next n ops books after op o b p q =
-      let same : op ≡ (done client (n + 1) (worked client state n).books).op = p ∙ ap (λ (x : Books). (done client (n + 1) x).op) b in
-      (ap₂ (λ (l : List Op) (x : Op). l ++ x ∷ []) o same ∙ ap (λ (w : Work). w.ops) (sym (worked-more n)),
-      q ∙ ap (λ (x : Books). (done client (n + 1) x).books) b ∙ ap (λ (w : Work). w.books) (sym (worked-more n)))
+      let same : op ≡ (done client (n + 1) (worked client state n).books).op = p ∙ ap (λ (x : Books). (done client (n + 1) x).op) b in (
+        ap₂ (λ (l : List Op) (x : Op). l ++ x ∷ []) o same ∙ ap (λ (w : Work). w.ops) (sym (worked-more n)),
+        q ∙ ap (λ (x : Books). (done client (n + 1) x).books) b ∙ ap (λ (w : Work). w.books) (sym (worked-more n)),
+      )
 
   pub worked-at_most : (n : ℕ) → AreAtMost (100 + 10 * n) (worked client state n).books.main × AreAtMost (100 + 10 * n) (worked client state n).books.aside
   unfolding worked

@@ -99,12 +99,7 @@ fn is_branch(client: u8, number: u32) -> bool
 }
 
 /// The operation of this number of a client, and the books behind it.
-fn next_op(
-    alloc: Global,
-    client: u8,
-    number: u32,
-    books: &mut Books,
-) -> Result<Op, NoMemory>
+fn next_op(alloc: Global, client: u8, number: u32, books: &mut Books) -> Result<Op, NoMemory>
     requires there { client < 8 }
     requires few { AreAtMost 10000 books.old.main × AreAtMost 10000 books.old.aside }
     ensures op { IfOk result (λ op. op ≡ (done client number books.old).op) }

@@ -1,6 +1,8 @@
-//! Tests of scripts and of the plain store.
+//! Tests of scripts, of generated ones too, and of the plain store.
 #![tactic(auto)]
 
+#[cfg(test)]
+mod generated;
 #[cfg(test)]
 mod plain;
 #[cfg(test)]

@@ -1,4 +1,4 @@
-use Rattle.std.proofs.Common.{◌≡◌, IfOk, OnOk, sym, subst, ap, ap₂, ◌∙◌}
+use Rattle.std.proofs.Common.{◌≡◌, IfOk, sym, subst, ap, ap₂, ◌∙◌}
 use Rattle.mn_base.specs.declared.op.Op.TheVariants.{Branch}
 use Rattle.mn_gen.specs.Work.{Done}
 use Rattle.mn_gen.proofs.Doing.{done-scan, done-branch, done-aside, done-main, aside-books, main-books, on_any, on_both}

@@ -16,5 +16,5 @@ next_op-requires-clause-few c =
 pub loop-done-preserved : goal.loop-done-preserved
 loop-done-preserved c =
     let both = worked-next c.args.client c.args.state.now c.loop-done.done c.loop-done.ops.items c.loop-done.books c.next_op.new.books c.in_ok-new.field-0
-        c.loop-done.invariant.ops c.loop-done.invariant.books (c.in_ok-new.ensures ∙ c.in_ok-op.ensures.op) c.in_ok-op.ensures.books in
+    c.loop-done.invariant.ops c.loop-done.invariant.books (c.in_ok-new.ensures ∙ c.in_ok-op.ensures.op) c.in_ok-op.ensures.books in
     record { ops = c.in_ok-push.ensures.items ∙ both.0; books = both.1 }
