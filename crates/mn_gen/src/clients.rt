@@ -1,7 +1,7 @@
 ghost use Rattle.std.specs.Prelude.{◌≡◌, ◌<◌, ◌++◌, IfOk, OnOk};
 ghost use Rattle.mn_base.specs.declared.op.Op.TheVariants.{Snapshot};
-ghost use Rattle.mn_gen.specs.Generated.{opening, openings, opener, state_behind, mover_from, closer};
-ghost use Rattle.mn_gen.specs.Generated.{clients_of};
+ghost use Rattle.mn_gen.specs.Generated.{opening, openings, opener, closer, clients_of};
+ghost use Rattle.mn_gen.specs.Generated.{mover_from, state_behind};
 
 use crate::accounts::{name, put};
 use crate::work::{scan, work};
