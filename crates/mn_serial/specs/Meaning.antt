@@ -1,15 +1,18 @@
 -- The laws of meaning: however a run goes, its history is one legal history of the store.
 use Rattle.std.specs.Prelude.{ℕ, ◌≡◌, ◌<◌, ◌⊎◌, true, false, nat_lt, filter, List, [], ◌∷◌, ◌++◌}
-use Rattle.std.specs.Prelude.{length, Some, ⊤, slice_get, Contains}
+use Rattle.std.specs.Prelude.{length, reverse, Some, ⊤, slice_get, Contains}
 use Rattle.std.specs.List.{AllByRecursion}
 use Rattle.mn_base.specs.Store.{Store, StoreVersion}
 use Rattle.mn_base.specs.History.{store_after}
 use Rattle.mn_base.specs.declared.ids.ClientNo.{ClientNo}
+use Rattle.mn_base.specs.declared.ids.NodeNo.{NodeNo}
 use Rattle.mn_base.specs.declared.answer.Answer.{Answer}
 use Rattle.mn_base.specs.declared.answer.Answer.TheVariants.{Replied, InDoubt}
 use Rattle.mn_base.specs.declared.op.Op.{Op}
 use Rattle.mn_base.specs.declared.history.Past.{Past}
+use Rattle.mn_mini.specs.declared.record.Record.{Record}
 use Rattle.mn_mini.specs.Mini.{is_read}
+use Rattle.mn_mini.specs.Short.{short}
 use Rattle.mn_page.specs.Holds.{Holds}
 use Rattle.mn_runs.specs.declared.entry.Entry.{Entry}
 use Rattle.mn_runs.specs.declared.entry.What.{What}
@@ -169,3 +172,20 @@ OnePlanEach =
     (start : Start) (store : Store) (past : List Entry) (one other : ℕ) (c : ClientNo) (number : ℕ)
     → OpenedRun start store past
     → CommitsPlanAt past one c number → CommitsPlanAt past other c number → one ≡ other
+
+-- Shortened records
+
+-- a list, and the same with a first part of it shortened, both newest first
+pub record IsShortenedFrom (whole shorter : List Record) : Type 0 where
+  pub first : List Record
+  pub rest : List Record
+  pub whole_is : whole ≡ reverse (first ++ rest)
+  pub shorter_is : shorter ≡ reverse (short first ++ rest)
+
+-- where such parts of some lists, or of all, are shortened, the records stay opened with the same
+-- store; of a list that stays the first part is empty
+abbrev pub ShortenedStaysOpened : Type 0
+ShortenedStaysOpened =
+    (nodes : ℕ) (bases : NodeNo → List ℕ) (whole shorter : NodeNo → List Record) (store : Store)
+    → ((n : NodeNo) → IsShortenedFrom (whole n) (shorter n)) → IsOpened nodes bases whole store
+    → IsOpened nodes bases shorter store

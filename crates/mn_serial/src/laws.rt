@@ -2,7 +2,7 @@ ghost use Rattle.mn_serial.specs.OneHistory.{RunsHaveHistory, RunsAreOneHistory}
 ghost use Rattle.mn_serial.specs.Meaning.{HistoryIsOne, CommittedStands, OnlyThoseStand};
 ghost use Rattle.mn_serial.specs.Meaning.{PlansLieBehind, OnePlanEach, HoldsThroughout};
 ghost use Rattle.mn_serial.specs.Meaning.{StaysOpened, EndsOpened, StopsLeaveOpened};
-ghost use Rattle.mn_serial.specs.Meaning.{FrozenNeverChanges};
+ghost use Rattle.mn_serial.specs.Meaning.{FrozenNeverChanges, ShortenedStaysOpened};
 ghost use Rattle.mn_serial.specs.Settled.{PlacesAreSettled};
 
 // Each law is the contract of a function that does nothing: what it says is proved, and may be
@@ -75,4 +75,10 @@ pub fn places_are_settled()
 /// A version that is frozen at one place stands unchanged at every later one.
 pub fn frozen_never_changes()
     ensures { FrozenNeverChanges }
+{}
+
+/// Where a first part of the records of some nodes is shortened, they stay opened with the same
+/// store.
+pub fn shortened_stays_opened()
+    ensures { ShortenedStaysOpened }
 {}
