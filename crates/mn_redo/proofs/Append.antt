@@ -1,16 +1,19 @@
 -- What each moment of an append leaves.
-use Rattle.std.proofs.Common.{◌≡◌, ◌<◌, ◌≤◌, ◌^◌, ◌⊎◌, inl, inr, ℕ, ◌+◌, List, [], ◌∷◌, ◌++◌, length, drop, set, sym, ◌∙◌, ap, subst, arith, append_assoc, length-append}
+use Rattle.std.proofs.Common.{◌≡◌, ◌<◌, ◌≤◌, ◌^◌, ◌⊎◌, inl, inr, ℕ, ◌+◌, List, [], ◌∷◌, ◌++◌, length, drop, set, sym, ◌∙◌, ap, subst, arith, append_assoc, length-append, refl}
 use Rattle.std.proofs.lemmas.Bool.{cases_eq}
 use Rattle.std.proofs.lemmas.List.{set_at}
 use Rattle.mn_io.proofs.Moments.{LeavesOnly-weaker, LeavesOnly-trans}
 use Rattle.mn_io.specs.DiskModel.{DiskState, LeavesOnly, Torn, written_at}
-use Rattle.mn_redo.specs.Grammar.{header, behind_gate, records, HaveSizes, IsBeforeOrAfter, IsLog, IsLogBeforeOrAfter, IsStaged}
+use Rattle.mn_redo.specs.Grammar.{behind_gate, records, HaveSizes, IsBeforeOrAfter, IsLead, IsLog, IsLogBeforeOrAfter, IsStaged, Stands, current_number}
 use Rattle.mn_redo.proofs.Pieces.{torn_behind, written_behind, torn_gate, written_gate}
 use Rattle.mn_redo.proofs.Parse.{records_push, sizes_push, length-behind_gate}
 
-pub before_or_after : (node nodes : ℕ) (bodies : List (List ℕ)) (body c : List ℕ) → IsLog (header node nodes) c bodies ⊎ IsLog (header node nodes) c (bodies ++ body ∷ []) → IsBeforeOrAfter node nodes bodies body c
-before_or_after node nodes bodies body c (inl old) = inl (inr old)
-before_or_after node nodes bodies body c (inr new) = inr (inr new)
+pub stands_by : (node nodes : ℕ) (before c : List ℕ) (bodies : List (List ℕ)) → IsLead node nodes before → IsLog before c bodies → Stands node nodes c bodies
+stands_by node nodes before c bodies lead log = inr (current_number before, (length before, record { before = before; lead = lead; log = log; number_is = refl; start_is = refl }))
+
+pub before_or_after : (node nodes : ℕ) (before : List ℕ) (bodies : List (List ℕ)) (body c : List ℕ) → IsLead node nodes before → IsLogBeforeOrAfter before bodies body c → IsBeforeOrAfter node nodes bodies body c
+before_or_after node nodes before bodies body c lead (inl old) = inl (stands_by node nodes before c bodies lead old)
+before_or_after node nodes before bodies body c lead (inr new) = inr (stands_by node nodes before c (bodies ++ body ∷ []) lead new)
 
 abbrev pub front : List ℕ → List (List ℕ) → List ℕ
 front before bodies = before ++ records bodies
@@ -64,21 +67,19 @@ module _ (before : List ℕ) (bodies : List (List ℕ)) (body : List ℕ) (m : �
 
 -- Both writes: the record behind its closed gate, and then the gate
 
-module _ (node nodes : ℕ) (bodies : List (List ℕ)) (body : List ℕ) (gate : ℕ) (at : gate ≡ 16 + length (records bodies)) (size : length body < 2 ^ 32) where
-  gate_at : gate ≡ length (front (header node nodes) bodies)
-  gate_at = omega (arith, at, length-append (header node nodes) (records bodies))
+module _ (before : List ℕ) (bodies : List (List ℕ)) (body : List ℕ) (gate : ℕ) (at : gate ≡ length before + length (records bodies)) (size : length body < 2 ^ 32) where
+  gate_at : gate ≡ length (front before bodies)
+  gate_at = omega (arith, at, length-append before (records bodies))
 
-  pub within_staged : (content : List ℕ) → IsStaged (header node nodes) bodies body content → gate ≤ length content
-  within_staged content staged = omega (arith, gate_at, ap length staged.bytes, length-append (front (header node nodes) bodies) (staged.gate ∷ (behind_gate body ++ 0 ∷ staged.tail)))
+  pub within_staged : (content : List ℕ) → IsStaged before bodies body content → gate ≤ length content
+  within_staged content staged = omega (arith, gate_at, ap length staged.bytes, length-append (front before bodies) (staged.gate ∷ (behind_gate body ++ 0 ∷ staged.tail)))
 
-  pub both_moments : (old mid new : DiskState) → LeavesOnly old mid (λ c. IsLog (header node nodes) c bodies) → IsStaged (header node nodes) bodies body mid.content → LeavesOnly mid new (Torn gate 1 mid.content)
-      → LeavesOnly old new (IsLogBeforeOrAfter node nodes bodies body)
+  pub both_moments : (old mid new : DiskState) → LeavesOnly old mid (λ c. IsLog before c bodies) → IsStaged before bodies body mid.content → LeavesOnly mid new (Torn gate 1 mid.content) → LeavesOnly old new (IsLogBeforeOrAfter before bodies body)
   both_moments old mid new first staged second =
-      LeavesOnly-trans old mid new (IsLogBeforeOrAfter node nodes bodies body) (LeavesOnly-weaker old mid _ _ (λ c log. inl log) first)
-      (LeavesOnly-weaker mid new _ _ (λ c torn. gate_torn (header node nodes) bodies body gate mid.content c staged size gate_at torn) second)
+      LeavesOnly-trans old mid new (IsLogBeforeOrAfter before bodies body) (LeavesOnly-weaker old mid _ _ (λ c log. inl log) first) (LeavesOnly-weaker mid new _ _ (λ c torn. gate_torn before bodies body gate mid.content c staged size gate_at torn) second)
 
-  pub both_done : (content new : List ℕ) → IsStaged (header node nodes) bodies body content → new ≡ written_at content gate (1 ∷ []) → IsLog (header node nodes) new (bodies ++ body ∷ [])
-  both_done content new staged done = gate_done (header node nodes) bodies body gate content new staged size gate_at done
+  pub both_done : (content new : List ℕ) → IsStaged before bodies body content → new ≡ written_at content gate (1 ∷ []) → IsLog before new (bodies ++ body ∷ [])
+  both_done content new staged done = gate_done before bodies body gate content new staged size gate_at done
 
-  pub gate_after : gate + (5 + length body) ≡ 16 + length (records (bodies ++ body ∷ []))
+  pub gate_after : gate + (5 + length body) ≡ length before + length (records (bodies ++ body ∷ []))
   gate_after = omega (arith, at, ap length (records_push bodies body), length-append (records bodies) (1 ∷ behind_gate body), length-behind_gate body)

@@ -50,6 +50,18 @@ placed at (b ∷ bodies) (suc k) h =
       last = λ few. p.last (omega arith);
     }
 
+pub kept_length : (bytes : List ℕ) → BytesAreKept [] bytes → length bytes ≡ length (records (listed_in 0 bytes)) + 1
+kept_length bytes kept = omega (arith, ap length kept.bytes_are, length-append (records (listed_in 0 bytes)) (0 ∷ []))
+
+-- places from a start on, and from 0 on
+pub places_from : (start at : ℕ) (bodies : List (List ℕ)) (k : ℕ) → k < length bodies → get_or (places (start + at) bodies) k 0 ≡ start + get_or (places at bodies) k 0
+places_from start at [] k h = absurd (omega arith)
+places_from start at (b ∷ bodies) zero h = refl
+places_from start at (b ∷ bodies) (suc k) h = ap (λ (n : ℕ). get_or (places n bodies) k 0) (omega arith) ∙ places_from start (at + 5 + length b) bodies k (omega arith)
+
+pub places_from_0 : (start : ℕ) (bodies : List (List ℕ)) (k : ℕ) → k < length bodies → start + get_or (places 0 bodies) k 0 ≡ get_or (places start bodies) k 0
+places_from_0 start bodies k h = sym (places_from start 0 bodies k h) ∙ ap (λ (n : ℕ). get_or (places n bodies) k 0) (omega arith)
+
 module _ (front_bytes bytes gates : List ℕ) (k : ℕ) (kept : BytesAreKept front_bytes bytes) (gates_are : gates ≡ places (length front_bytes) (listed_in (length front_bytes) bytes)) (within : k < length (listed_in (length front_bytes) bytes)) where
   abbrev bodies : List (List ℕ)
   bodies = listed_in (length front_bytes) bytes

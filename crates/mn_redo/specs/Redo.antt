@@ -6,13 +6,17 @@ use Rattle.mn_redo.specs.Grammar.{IsFresh, Stands}
 use Rattle.mn_redo.specs.Log.{IsFrontKept, listed_in}
 use Rattle.mn_redo.specs.declared.redo.Phase.{Phase}
 
--- the disk, the number of its node, that of all nodes, the bodies in the log, and for how many
--- more, with how many bytes, there is room
+-- the disk, the number of its node, that of all nodes, the place where the log begins, the number
+-- of the current area, the bodies in the log, the bytes of records since it was opened or
+-- shortened, and for how many more bodies, with how many bytes, there is room
 pub record RedoState (D : Type 0) : Type 0 where
   pub disk : D
   pub node : ℕ
   pub nodes : ℕ
   pub phase : Phase
+  pub start : ℕ
+  pub number : ℕ
+  pub tail : ℕ
   pub bodies : List (List ℕ)
   pub spare_bodies : ℕ
   pub spare_bytes : ℕ
@@ -29,8 +33,8 @@ HasHeader disk = (c : List ℕ) → disk.images c → IsFresh c → ⊥
 -- and there is room for more of them
 pub record IsCopied {D : Type 0} (state : D → DiskState) (appender : AppenderState D)
     (bytes gates : List ℕ) (room_bytes room_gates spare_bodies spare_bytes : ℕ) : Type 0 where
-  pub kept : IsFrontKept appender.node appender.nodes bytes gates
-  pub log : IsLogOf state appender (listed_in 16 bytes)
+  pub kept : IsFrontKept bytes gates
+  pub log : IsLogOf state appender (listed_in 0 bytes)
   pub spare : spare_bodies ≤ appender.spare_bodies
   pub spare_too : spare_bytes ≤ appender.spare_bytes
   pub gates_fit : length gates + spare_bodies ≤ room_gates

@@ -4,27 +4,33 @@ ghost use Rattle.std.specs.Prelude.{◌↔◌, vec_capacity};
 ghost use Rattle.mn_io.specs.DiskModel.{IsStable, LeavesOnly, NoneNew, DiskStays, WritesNothing};
 ghost use Rattle.mn_io.specs.Faults.{HasCause, Rose};
 ghost use Rattle.mn_redo.specs.Appender.{IsLogOf};
-ghost use Rattle.mn_redo.specs.Grammar.{header, IsBeforeOrAfter, IsDamaged, IsFresh, IsLog};
-ghost use Rattle.mn_redo.specs.Grammar.{IsStaged, Stands, records};
+ghost use Rattle.mn_redo.specs.Grammar.{IsBeforeOrAfter, IsDamaged, IsFresh, IsLog, IsOneOrOther};
+ghost use Rattle.mn_redo.specs.Grammar.{HaveSizes, IsStaged, IsStagedAt, Stands, place_for, records};
+ghost use Rattle.mn_redo.specs.Grammar.{total, whole_log};
 ghost use Rattle.mn_redo.specs.Log.{IsFrontKept, listed_in};
 ghost use Rattle.mn_redo.specs.Redo.{HasHeader, StandsFor};
 ghost use Rattle.mn_redo.specs.declared.open.OpenCause.TheVariants as causes;
 
-use crate::change::{change, stage};
+use crate::change::{stage, stage_all};
 use crate::front::Front;
 use crate::header::{empty_log, write_header};
 use crate::open::{Found, OpenCause, prepare};
 use crate::redo::Phase;
-use mn_io::{Disk, Failed, Fault, NoMemory, make_room};
+use crate::shorten::{choose_place, replace};
+use mn_ckpt::change;
+use mn_io::{Bytes, Disk, Failed, Fault, NoMemory, make_room};
 use std::alloc::Global;
 use std::marker::Model;
 
 /// More than these is refused like want of memory, so that no sum wraps.
-const MOST_BODIES: u32 = 1_000_000_000;
+const MOST_BODIES: u32 = 400_000_000;
 
 const MOST_BYTES: usize = 1_000_000_000_000;
 
 const MOST_PLACE: u64 = 1 << 60;
+
+/// The greatest number of an area. A log of this number isn't shortened.
+const LAST_NUMBER: u64 = 1 << 63;
 
 /// For how many bytes of a record there is room at once.
 const PIECE_AT_ONCE: usize = 1 << 12;
@@ -70,8 +76,14 @@ pub struct Appender<D: Disk> {
     phase: Phase,
     /// How many bodies it has.
     count: u32,
+    /// Where it begins.
+    start: u64,
     /// The place of the closed gate behind them.
     gate: u64,
+    /// The number of the current area, or 0.
+    number: u64,
+    /// The bytes of records since it was read or shortened.
+    tail: u64,
     spare_bodies: u32,
     spare_bytes: usize,
     /// The room in which records are put together, one after another.
@@ -90,7 +102,10 @@ impl<D: Disk> Model for Appender<D> {
       nodes = a.nodes;
       phase = a.phase;
       count = a.count;
+      start = a.start;
       gate = a.gate;
+      number = a.number;
+      tail = a.tail;
       spare_bodies = a.spare_bodies;
       spare_bytes = a.spare_bytes;
     } };
@@ -102,7 +117,10 @@ impl<D: Disk> Model for Appender<D> {
           nodes = a.nodes;
           phase = a.phase;
           count = a.count;
+          start = a.start;
           gate = a.gate;
+          number = a.number;
+          tail = a.tail;
           spare_bodies = a.spare_bodies;
           spare_bytes = a.spare_bytes;
         }) };
@@ -122,7 +140,10 @@ impl<D: Disk> Appender<D> {
             nodes,
             phase: Phase::Closing,
             count: 0,
+            start: 0,
             gate: 0,
+            number: 0,
+            tail: 0,
             spare_bodies: 0,
             spare_bytes: 0,
             piece: Vec::new(alloc),
@@ -134,16 +155,19 @@ impl<D: Disk> Appender<D> {
     /// The causes are those of `Redo::open`. After an error only `read`, `reopen` and `close` may
     /// be called.
     pub(crate) fn read(&mut self, alloc: Global) -> Result<Found, OpenCause>
-        ensures kept { IfOk result (λ found.
-            IsFrontKept self.old.node self.old.nodes found.bytes.items found.gates.items) }
+        ensures kept { IfOk result (λ found. IsFrontKept found.bytes.items found.gates.items) }
+        ensures near { IfOk result (λ found. found.start + length found.bytes.items ≤ 2 ^ 63) }
         ensures log { IfOk result (λ found.
-            IsLogOf D.state self.new (listed_in 16 found.bytes.items)) }
+            IsLogOf D.state self.new (listed_in 0 found.bytes.items)) }
+        ensures start { IfOk result (λ found. self.new.start ≡ found.start) }
+        ensures tail { IfOk result (λ found.
+            self.new.tail ≡ length (records (listed_in 0 found.bytes.items))) }
         ensures read { (D.state self.old.disk).honest
             → IfOk result (λ found. Stands self.old.node self.old.nodes
-            (D.state self.old.disk).content (listed_in 16 found.bytes.items)) }
+            (D.state self.old.disk).content (listed_in 0 found.bytes.items)) }
         ensures stands { (D.state self.old.disk).honest
             → IfOk result (λ found. StandsFor (D.state self.new.disk) self.old.node self.old.nodes
-            (listed_in 16 found.bytes.items)) }
+            (listed_in 0 found.bytes.items)) }
         ensures fresh { (D.state self.old.disk).honest
             → OnOk result (self.new.phase ≡ Phase.Fresh → IsFresh (D.state self.old.disk).content) }
         ensures going { OnOk result (self.new.phase ≢ Phase.Closing) }
@@ -173,7 +197,10 @@ impl<D: Disk> Appender<D> {
         self.phase = Phase::Closing;
         let found = prepare(alloc, &mut self.disk, self.node, self.nodes)?;
         self.count = found.gates.len() as u32;
-        self.gate = found.bytes.len() as u64 - 1;
+        self.start = found.start;
+        self.tail = found.bytes.len() as u64 - 1;
+        self.gate = self.start + self.tail;
+        self.number = found.number;
         self.spare_bodies = 0;
         self.spare_bytes = 0;
         self.phase = if found.is_fresh {
@@ -191,11 +218,15 @@ impl<D: Disk> Appender<D> {
     /// called.
     pub fn reopen(&mut self, alloc: Global) -> Result<Front, OpenCause>
         // The list is that of the bytes that the disk had; a fresh disk has none.
-        ensures log { IfOk result (IsLogOf D.state self.new) }
+        ensures log { IfOk result (λ front. IsLogOf D.state self.new front.bodies) }
+        ensures start { IfOk result (λ front. self.new.start ≡ front.start) }
+        ensures tail { IfOk result (λ front. self.new.tail ≡ length (records front.bodies)) }
         ensures read { (D.state self.old.disk).honest
-            → IfOk result (Stands self.old.node self.old.nodes (D.state self.old.disk).content) }
+            → IfOk result (λ front. Stands self.old.node self.old.nodes
+            (D.state self.old.disk).content front.bodies) }
         ensures stands { (D.state self.old.disk).honest
-            → IfOk result (StandsFor (D.state self.new.disk) self.old.node self.old.nodes) }
+            → IfOk result (λ front. StandsFor (D.state self.new.disk) self.old.node self.old.nodes
+            front.bodies) }
         ensures fresh { (D.state self.old.disk).honest
             → OnOk result (self.new.phase ≡ Phase.Fresh → IsFresh (D.state self.old.disk).content) }
         ensures going { OnOk result (self.new.phase ≢ Phase.Closing) }
@@ -224,7 +255,7 @@ impl<D: Disk> Appender<D> {
         ensures no_better { (D.state self.new.disk).honest → (D.state self.old.disk).honest }
     {
         let found = self.read(alloc)?;
-        Ok(Front::of(found, self.node, self.nodes))
+        Ok(Front::of(found))
     }
 
     /// Gives a fresh disk its header; of a disk that has one it calls nothing. `Fault` comes only
@@ -237,6 +268,9 @@ impl<D: Disk> Appender<D> {
             → OnOk result (IsLogOf D.state self.new bodies) }
         ensures spare_bodies { self.new.spare_bodies ≡ self.old.spare_bodies }
         ensures spare_bytes { self.new.spare_bytes ≡ self.old.spare_bytes }
+        ensures place { self.new.start ≡ self.old.start }
+        ensures number { self.new.number ≡ self.old.number }
+        ensures tail { self.new.tail ≡ self.old.tail }
         ensures stands { (bodies : List (List ℕ)) → IsLogOf D.state self.old bodies
             → (D.state self.old.disk).honest
             → StandsFor (D.state self.new.disk) self.old.node self.old.nodes bodies }
@@ -281,6 +315,9 @@ impl<D: Disk> Appender<D> {
         ensures no_fewer { self.old.spare_bodies ≤ self.new.spare_bodies }
         ensures no_less { self.old.spare_bytes ≤ self.new.spare_bytes }
         ensures phase { self.new.phase ≡ self.old.phase }
+        ensures place { self.new.start ≡ self.old.start }
+        ensures number { self.new.number ≡ self.old.number }
+        ensures tail { self.new.tail ≡ self.old.tail }
         ensures log { (list : List (List ℕ)) → IsLogOf D.state self.old list
             → IsLogOf D.state self.new list }
         ensures node { self.new.node ≡ self.old.node }
@@ -303,12 +340,13 @@ impl<D: Disk> Appender<D> {
             return Err(NoMemory);
         }
 
-        // A body is two writes and two syncs, of its bytes and six more; a header is eight changes
-        // of 18 bytes.
+        // A body is two writes and two syncs, of its bytes and six more. A shortening uses up one
+        // spare body more than it has bodies: it is ten changes, of its bodies' bytes, five more
+        // for each of them and 19. A header is eight changes of 82 bytes.
         self.disk
-            .make_room(4 * bodies + 8, bytes + 6 * bodies as usize + 18)?;
+            .make_room(10 * bodies + 8, bytes + 19 * bodies as usize + 82)?;
         self.piece.clear();
-        make_room(&mut self.piece, bytes + 5, PIECE_AT_ONCE)?;
+        make_room(&mut self.piece, bytes + 5 * bodies as usize, PIECE_AT_ONCE)?;
         self.spare_bodies = bodies;
         self.spare_bytes = bytes;
         Ok(())
@@ -329,6 +367,9 @@ impl<D: Disk> Appender<D> {
         ensures bodies { OnOk result (self.old.spare_bodies ≤ self.new.spare_bodies + 1) }
         ensures bytes { OnOk result (self.old.spare_bytes
             ≤ self.new.spare_bytes + length body.now) }
+        ensures place { self.new.start ≡ self.old.start }
+        ensures number { self.new.number ≡ self.old.number }
+        ensures tail { OnOk result (self.new.tail ≡ self.old.tail + 5 + length body.now) }
 
         // At Ok each image of the disk stands for the list with the body.
         ensures stable { (bodies : List (List ℕ)) → IsLogOf D.state self.old bodies
@@ -356,9 +397,83 @@ impl<D: Disk> Appender<D> {
         half(&mut self.disk, &mut self.piece, self.gate, body)?;
         change(&mut self.disk, self.gate, &[1])?;
         self.gate += 5 + body.len() as u64;
+        self.tail += 5 + body.len() as u64;
         self.count += 1;
         self.spare_bodies -= 1;
         self.spare_bytes -= body.len();
+        self.phase = Phase::Started;
+        Ok(())
+    }
+
+    /// Whether the log may be shortened: its number isn't the last one.
+    pub fn can_shorten(&self) -> bool
+        ensures { IsTrue result ↔ (self.now.number ≢ 2 ^ 63) }
+    {
+        self.number != LAST_NUMBER
+    }
+
+    /// The bytes of records since the log was read or shortened; at first of the whole log.
+    pub fn tail(&self) -> u64
+        ensures { result ≡ self.now.tail }
+    {
+        self.tail
+    }
+
+    /// Puts another list in place of the log's; at `Ok` it is stable. It uses up one spare body
+    /// more than there are bodies, and as many spare bytes as they have. `Fault` comes only where
+    /// the disk's count of faults rose; after it only `reopen` and `close` may be called.
+    pub fn shorten(&mut self, bodies: &[Bytes]) -> Result<(), Fault>
+        requires started { self.old.phase ≡ Phase.Started }
+        requires can { self.old.number ≢ 2 ^ 63 }
+        requires sizes { HaveSizes bodies.now }
+        requires spare_bodies { length bodies.now < self.old.spare_bodies }
+        requires spare_bytes { total bodies.now ≤ self.old.spare_bytes }
+        ensures started { OnOk result (self.new.phase ≡ Phase.Started) }
+        ensures closing { OnErr result (self.new.phase ≡ Phase.Closing) }
+        ensures list { (old : List (List ℕ)) → IsLogOf D.state self.old old
+            → OnOk result (IsLogOf D.state self.new bodies.now) }
+        ensures bodies { OnOk result (self.old.spare_bodies
+            ≤ self.new.spare_bodies + length bodies.now + 1) }
+        ensures bytes { OnOk result (self.old.spare_bytes
+            ≤ self.new.spare_bytes + total bodies.now) }
+        ensures number { OnOk result (self.new.number ≡ self.old.number + 1) }
+        ensures place { OnOk result (self.new.start
+            ≡ place_for self.old.start self.old.gate (length (whole_log bodies.now))) }
+        ensures tail { OnOk result (self.new.tail ≡ 0) }
+
+        // At Ok each image of the disk stands for the new list.
+        ensures stable { (old : List (List ℕ)) → IsLogOf D.state self.old old
+            → (D.state self.old.disk).honest
+            → OnOk result (StandsFor (D.state self.new.disk) self.old.node self.old.nodes
+            bodies.now) }
+
+        // A crash at any moment of the call leaves the old list or the new one.
+        ensures any_moment { (old : List (List ℕ)) → IsLogOf D.state self.old old
+            → (D.state self.old.disk).honest
+            → LeavesOnly (D.state self.old.disk) (D.state self.new.disk)
+            (IsOneOrOther self.old.node self.old.nodes old bodies.now) }
+        ensures images { (old : List (List ℕ)) → IsLogOf D.state self.old old
+            → (D.state self.old.disk).honest → (c : List ℕ) → (D.state self.new.disk).images c
+            → IsOneOrOther self.old.node self.old.nodes old bodies.now c }
+        ensures header { (D.state self.old.disk).honest → HasHeader (D.state self.new.disk) }
+        ensures node { self.new.node ≡ self.old.node }
+        ensures nodes { self.new.nodes ≡ self.old.nodes }
+        ensures honest { (D.state self.old.disk).honest → (D.state self.new.disk).honest }
+        ensures no_better { (D.state self.new.disk).honest → (D.state self.old.disk).honest }
+        ensures cause { HasCause (D.faults self.old.disk) (D.faults self.new.disk) result }
+    {
+        self.phase = Phase::Closing;
+        stage_all(&mut self.piece, bodies);
+        let size = self.piece.len() as u64;
+        let place = choose_place(self.start, self.gate, size);
+        replace(&mut self.disk, &self.piece, place, self.number)?;
+        self.start = place;
+        self.gate = place + size - 1;
+        self.number += 1;
+        self.tail = 0;
+        self.count = bodies.len() as u32;
+        self.spare_bodies -= self.count + 1;
+        self.spare_bytes -= size as usize - 1 - 5 * bodies.len();
         self.phase = Phase::Started;
         Ok(())
     }
@@ -384,7 +499,7 @@ impl<D: Disk> Appender<D> {
         // At Ok the record stands on the disk behind a closed gate.
         ensures half { (bodies : List (List ℕ)) → IsLogOf D.state self.old bodies
             → (D.state self.old.disk).honest
-            → OnOk result (IsStaged (header self.old.node self.old.nodes) bodies body.now
+            → OnOk result (IsStagedAt self.old.node self.old.nodes bodies body.now
             (D.state self.new.disk).content) }
         ensures stable { (D.state self.old.disk).honest
             → OnOk result (IsStable (D.state self.new.disk)) }
@@ -411,6 +526,13 @@ impl<D: Disk> Appender<D> {
         ensures { result ≡ self.now.nodes }
     {
         self.nodes
+    }
+
+    /// Where the log begins on its disk.
+    pub(crate) fn begins(&self) -> u64
+        ensures { result ≡ self.now.start }
+    {
+        self.start
     }
 
     /// Whether the disk was read as fresh and `start` hasn't written its header.

@@ -1,35 +1,8 @@
-ghost use Rattle.std.specs.Prelude.{◌≡◌, ◌≤◌, ◌+◌, ◌++◌, ◌∷◌, [], ◌<◌, ◌^◌, length, OnOk, vec_len};
+ghost use Rattle.std.specs.Prelude.{◌≡◌, ◌≤◌, ◌+◌, ◌++◌, ◌∷◌, [], ◌<◌, ◌^◌, length, vec_len};
 ghost use Rattle.std.specs.Prelude.{vec_capacity};
-ghost use Rattle.std.specs.Int.{w32, to_be_bytes};
-ghost use Rattle.mn_io.specs.Faults.{HasCause};
-ghost use Rattle.mn_io.specs.DiskModel.{IsStable, LeavesOnly, Torn, written_at};
-ghost use Rattle.mn_redo.specs.Grammar.{behind_gate};
+ghost use Rattle.mn_redo.specs.Grammar.{behind_gate, places, whole_log, HaveSizes};
 
-use mn_io::{Disk, Failed};
-
-/// Writes a piece over a stable disk, and syncs.
-pub fn change<D: Disk>(disk: &mut D, at: u64, piece: &[u8]) -> Result<(), Failed>
-    requires within { (D.state disk.old).honest → at ≤ length (D.state disk.old).content }
-    requires stable { (D.state disk.old).honest → IsStable (D.state disk.old) }
-    requires changes { 2 ≤ D.spare_changes disk.old }
-    requires room { length piece.now ≤ D.spare_bytes disk.old }
-    ensures written { (D.state disk.old).honest
-        → OnOk result ((D.state disk.new).content
-        ≡ written_at (D.state disk.old).content at piece.now) }
-    ensures stable { (D.state disk.old).honest → OnOk result (IsStable (D.state disk.new)) }
-    ensures honest { (D.state disk.old).honest → (D.state disk.new).honest }
-    ensures no_better { (D.state disk.new).honest → (D.state disk.old).honest }
-    ensures any_moment { (D.state disk.old).honest
-        → LeavesOnly (D.state disk.old) (D.state disk.new)
-        (Torn at (length piece.now) (D.state disk.old).content) }
-    ensures changes { D.spare_changes disk.old ≤ D.spare_changes disk.new + 2 }
-    ensures bytes { D.spare_bytes disk.old ≤ D.spare_bytes disk.new + length piece.now }
-    ensures cause { HasCause (D.faults disk.old) (D.faults disk.new) result }
-{
-    disk.write_at(at, piece)?;
-    disk.sync()?;
-    Ok(())
-}
+use mn_io::Bytes;
 
 /// Puts the length of a body, the body and a closed gate behind the bytes, which have room for
 /// them.
@@ -44,4 +17,37 @@ pub fn stage(bytes: &mut Vec<u8>, body: &[u8])
         .unwrap();
     bytes.extend_from_slice(body).unwrap();
     bytes.push(0).unwrap();
+}
+
+/// Puts the bytes of a whole log of these bodies, which there is room for, in place of what the
+/// vector holds.
+pub fn stage_all(bytes: &mut Vec<u8>, bodies: &[Bytes])
+    requires sizes { HaveSizes bodies.now }
+    requires room { length (whole_log bodies.now) ≤ vec_capacity bytes.old }
+    ensures bytes { bytes.new.items ≡ whole_log bodies.now }
+    ensures room { vec_capacity bytes.old ≤ vec_capacity bytes.new }
+{
+    bytes.clear();
+    bytes.push(0).unwrap();
+    for body in bodies {
+        let gate = bytes.len() - 1;
+        stage(bytes, body.as_slice());
+        bytes[gate] = 1;
+    }
+}
+
+/// Puts the places of the gates of these bodies, which there is room for, in place of what the
+/// vector holds. The first is at 0.
+pub fn place_all(gates: &mut Vec<u64>, bodies: &[Bytes])
+    requires small { length (whole_log bodies.now) < 2 ^ 63 }
+    requires room { length bodies.now ≤ vec_capacity gates.old }
+    ensures gates { gates.new.items ≡ places 0 bodies.now }
+    ensures room { vec_capacity gates.old ≤ vec_capacity gates.new }
+{
+    gates.clear();
+    let mut at = 0;
+    for body in bodies {
+        gates.push(at).unwrap();
+        at += 5 + body.as_slice().len() as u64;
+    }
 }

@@ -1,4 +1,4 @@
-ghost use Rattle.std.specs.Prelude.{◌≡◌, ◌≤◌, ◌<◌, ℕ, [], length, get_or, IfOk, IsErrOf};
+ghost use Rattle.std.specs.Prelude.{◌≡◌, ◌≤◌, ◌<◌, ◌+◌, ◌^◌, ℕ, [], length, get_or, IfOk, IsErrOf};
 ghost use Rattle.mn_io.specs.DiskModel.{DiskStays};
 ghost use Rattle.mn_io.specs.Faults.{Rose};
 ghost use Rattle.mn_redo.specs.Grammar.{AreInFront, IsDamaged, places};
@@ -15,21 +15,22 @@ use std::marker::Model;
 /// The bodies of the whole records in front of the closed gate or the damage of a log.
 #[derive(Drop)]
 pub struct Front {
-    node: u8,
-    nodes: u8,
+    /// Where the log begins on its disk.
+    start: u64,
     bytes: Vec<u8>,
     gates: Vec<u64>,
 }
 
 impl Model for Front {
-    ghost use Rattle.std.specs.Prelude.{ℕ, List};
-    ghost use Rattle.mn_redo.specs.Log.{IsFrontKept, listed_in};
+    ghost use Rattle.std.specs.Prelude.{◌≤◌, ◌+◌, ◌^◌, length};
+    ghost use Rattle.mn_redo.specs.Log.{FrontState, IsFrontKept, listed_in};
 
-    ghost Value = { List (List ℕ) };
+    ghost Value = { FrontState };
 
-    ghost view = { λ f. listed_in 16 f.bytes.items };
+    ghost view = { λ f. record { start = f.start; bodies = listed_in 0 f.bytes.items } };
 
-    ghost invariant = { λ f. IsFrontKept f.node f.nodes f.bytes.items f.gates.items };
+    ghost invariant = { λ f. IsFrontKept f.bytes.items f.gates.items
+        × (f.start + length f.bytes.items ≤ 2 ^ 63) };
 }
 
 impl Front {
@@ -48,7 +49,8 @@ impl Front {
     ) -> Result<Front, OpenCause>
         ensures front { (D.state disk.old).honest
             → IsDamaged node.0 nodes (D.state disk.old).content at
-            → IfOk result (AreInFront node.0 nodes (D.state disk.old).content at) }
+            → IfOk result (λ front. AreInFront node.0 nodes (D.state disk.old).content at
+            front.start front.bodies) }
         ensures damaged { (D.state disk.old).honest
             → IsDamaged node.0 nodes (D.state disk.old).content at → (other : ℕ)
             → IsErrOf result (causes.Damaged other) → ⊥ }
@@ -63,17 +65,18 @@ impl Front {
         bytes.truncate(at as usize);
         bytes.push(0)?;
         let found = read_log(alloc, bytes, node.0, nodes)?;
-        Ok(Front::of(found, node.0, nodes))
+        Ok(Front::of(found))
     }
 
     /// The bodies of a log that was read.
-    pub(crate) fn of(found: Found, node: u8, nodes: u8) -> Front
-        requires { IsFrontKept node nodes found.bytes.items found.gates.items }
-        ensures { result ≡ listed_in 16 found.bytes.items }
+    pub(crate) fn of(found: Found) -> Front
+        requires kept { IsFrontKept found.bytes.items found.gates.items }
+        requires near { found.start + length found.bytes.items ≤ 2 ^ 63 }
+        ensures start { result.start ≡ found.start }
+        ensures bodies { result.bodies ≡ listed_in 0 found.bytes.items }
     {
         Front {
-            node,
-            nodes,
+            start: found.start,
             bytes: found.bytes,
             gates: found.gates,
         }
@@ -81,30 +84,24 @@ impl Front {
 
     /// How many bodies there are.
     pub fn count(&self) -> u32
-        ensures { result ≡ length self.now }
+        ensures { result ≡ length self.now.bodies }
     {
         self.gates.len() as u32
     }
 
     /// The bytes of a body, whose number is below the count.
     pub fn body(&self, number: u32) -> &[u8]
-        requires number { number < length self.now }
-        ensures { result.now ≡ get_or self.now number [] }
+        requires number { number < length self.now.bodies }
+        ensures { result.now ≡ get_or self.now.bodies number [] }
     {
-        body_of(
-            &self.bytes,
-            &self.gates,
-            self.node,
-            self.nodes,
-            number as usize,
-        )
+        body_of(&self.bytes, &self.gates, number as usize)
     }
 
     /// The place on the disk of the gate of a body, whose number is below the count.
     pub fn gate(&self, number: u32) -> u64
-        requires number { number < length self.now }
-        ensures { result ≡ get_or (places 16 self.now) number 0 }
+        requires number { number < length self.now.bodies }
+        ensures { result ≡ get_or (places self.now.start self.now.bodies) number 0 }
     {
-        self.gates[number as usize]
+        self.start + self.gates[number as usize]
     }
 }

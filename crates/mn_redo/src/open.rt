@@ -1,14 +1,14 @@
-ghost use Rattle.std.specs.Prelude.{◌≡◌, [], ◌≢◌, ◌≤◌, ◌<◌, ◌^◌, ◌+◌, ℕ, List, length, take};
+ghost use Rattle.std.specs.Prelude.{◌≡◌, [], ◌≢◌, ◌≤◌, ◌<◌, ◌^◌, ◌+◌, ℕ, List, length, take, drop};
 ghost use Rattle.std.specs.Prelude.{get_or, IfOk, OnOk, IfSome, IsNone, IsErrOf, true, false};
 ghost use Rattle.std.specs.Int.{w32, from_be_bytes};
 ghost use Rattle.mn_io.specs.Faults.{Rose};
 ghost use Rattle.mn_io.specs.DiskModel.{IsStable, NoneNew, DiskStays, WritesNothing};
-ghost use Rattle.mn_redo.specs.Grammar.{header, IsFront, IsFresh, IsLog, IsDamaged, IsDamagedAt};
-ghost use Rattle.mn_redo.specs.Grammar.{places};
-ghost use Rattle.mn_redo.specs.Log.{BytesAreKept, listed_in};
+ghost use Rattle.mn_redo.specs.Grammar.{IsFront, IsFresh, IsLogAt, IsDamaged, IsDamagedAt};
+ghost use Rattle.mn_redo.specs.Log.{IsFrontKept, IsNoLog, listed_in};
 ghost use Rattle.mn_redo.specs.declared.open.OpenCause.TheVariants as causes;
 
-use crate::header::{has_header, header_of, is_fresh};
+use crate::area::find_start;
+use crate::header::is_fresh;
 use mn_io::{Disk, Failed, NoMemory};
 use std::alloc::{AllocError, AllocFailed, Global};
 
@@ -77,26 +77,20 @@ fn size_in(rest: &[u8]) -> Option<usize>
     None
 }
 
-/// The places of the gates of the open records, and that of the closed gate behind them. An open
-/// gate with no whole record and gate behind it is damage at that gate.
-pub fn scan(
-    alloc: Global,
-    bytes: &[u8],
-    node: u8,
-    nodes: u8,
-) -> Result<(Vec<u64>, usize), OpenCause>
-    requires header { take 16 bytes.now ≡ header node nodes }
-    requires gate { 17 ≤ length bytes.now }
-    ensures front { IfOk result (λ found.
-        IsFront (header node nodes) bytes.now found.0.items found.1) }
+/// The places of the gates of the open records of a log, from its beginning on, and that of the
+/// closed gate behind them. An open gate with no whole record and gate behind it is damage at that
+/// gate.
+fn scan(alloc: Global, bytes: &[u8]) -> Result<(Vec<u64>, usize), OpenCause>
+    requires gate { 0 < length bytes.now }
+    ensures front { IfOk result (λ found. IsFront [] bytes.now found.0.items found.1) }
     ensures closed { IfOk result (λ found. get_or bytes.now found.1 0 ≢ 1) }
     ensures count { IfOk result (λ found. length found.0.items < 2 ^ 32) }
     ensures damaged { (at : ℕ) → IsErrOf result (causes.Damaged at)
-        → IsDamagedAt (header node nodes) bytes.now at }
+        → IsDamagedAt [] bytes.now at }
     ensures no_fault { IsErrOf result causes.Fault → ⊥ }
 {
     let mut gates = Vec::new(alloc);
-    let mut at = 16;
+    let mut at = 0;
     while bytes[at] == 1 {
         let rest = &bytes[at + 1..];
         let Some(size) = size_in(rest) else {
@@ -116,50 +110,75 @@ pub fn scan(
     Ok((gates, at))
 }
 
-/// A log's bytes up to its closed gate, as they are on a disk or as they will be on one that is
-/// fresh.
+/// The same of a log that begins at a place; that of damage is counted from the beginning of the
+/// disk.
+fn scan_from(alloc: Global, content: &[u8], start: usize) -> Result<(Vec<u64>, usize), OpenCause>
+    requires within { start < length content.now }
+    ensures front { IfOk result (λ found.
+        IsFront [] (drop start content.now) found.0.items found.1) }
+    ensures closed { IfOk result (λ found. get_or (drop start content.now) found.1 0 ≢ 1) }
+    ensures count { IfOk result (λ found. length found.0.items < 2 ^ 32) }
+    ensures damaged { (at : ℕ) → IsErrOf result (causes.Damaged at)
+        → IsDamagedAt (take start content.now) content.now at }
+    ensures no_fault { IsErrOf result causes.Fault → ⊥ }
+{
+    match scan(alloc, &content[start..]) {
+        Ok(found) => Ok(found),
+        Err(OpenCause::Damaged { at }) => Err(OpenCause::Damaged {
+            at: start as u64 + at,
+        }),
+        Err(cause) => Err(cause),
+    }
+}
+
+/// A log's bytes from its beginning up to its closed gate, as they are on a disk or as they will be
+/// on one that is fresh, the places of its gates from there, where it begins, and the number of the
+/// current area.
 #[derive(Drop)]
 pub struct Found {
     pub bytes: Vec<u8>,
     pub gates: Vec<u64>,
+    pub start: u64,
+    pub number: u64,
     pub is_fresh: bool,
 }
 
-/// Reads the log in the bytes of a disk. Of a fresh disk the bytes are those that its header will
-/// have.
+/// Reads the log in the bytes of a disk. Of a fresh disk it is the one that its header will have.
 pub fn read_log(alloc: Global, content: Vec<u8>, node: u8, nodes: u8) -> Result<Found, OpenCause>
-    ensures kept { IfOk result (λ found. BytesAreKept (header node nodes) found.bytes.items) }
-    ensures gates { IfOk result (λ found. found.gates.items
-        ≡ places 16 (listed_in 16 found.bytes.items)) }
-    ensures count { IfOk result (λ found. length found.gates.items < 2 ^ 32) }
+    ensures kept { IfOk result (λ found. IsFrontKept found.bytes.items found.gates.items) }
+    ensures near { IfOk result (λ found. found.start + length found.bytes.items ≤ 2 ^ 63) }
+    ensures few { IfOk result (λ found. found.number ≤ 9223372036854775808) }
     ensures fresh { IfOk result (λ found. found.is_fresh ≡ true → IsFresh content.items) }
-    ensures none { IfOk result (λ found. found.is_fresh ≡ true
-        → listed_in 16 found.bytes.items ≡ []) }
+    ensures none { IfOk result (λ found. found.is_fresh ≡ true → IsNoLog found.start found.number
+        (listed_in 0 found.bytes.items)) }
     ensures log { IfOk result (λ found. found.is_fresh ≡ false
-        → IsLog (header node nodes) content.items (listed_in 16 found.bytes.items)) }
+        → IsLogAt node nodes content.items found.number found.start
+        (listed_in 0 found.bytes.items)) }
     ensures damaged { (at : ℕ) → IsErrOf result (causes.Damaged at)
         → IsDamaged node nodes content.items at }
     ensures no_fault { IsErrOf result causes.Fault → ⊥ }
 {
     if is_fresh(&content) {
-        let mut bytes = Vec::from_slice(alloc, &header_of(node, nodes))?;
-        bytes.push(0)?;
         return Ok(Found {
-            bytes,
+            bytes: vec![in alloc; 0; 1]?,
             gates: Vec::new(alloc),
+            start: 80,
+            number: 0,
             is_fresh: true,
         });
     }
-    if !has_header(&content, node, nodes) {
-        return Err(OpenCause::Damaged { at: 0 });
-    }
-    let (gates, at) = scan(alloc, &content, node, nodes)?;
-    let mut bytes = content;
-    bytes.truncate(at);
+    let (number, start) = match find_start(&content, node, nodes) {
+        Ok(found) => found,
+        Err(at) => return Err(OpenCause::Damaged { at }),
+    };
+    let (gates, at) = scan_from(alloc, &content, start)?;
+    let mut bytes = Vec::from_slice(alloc, &content[start..start + at])?;
     bytes.push(0)?;
     Ok(Found {
         bytes,
         gates,
+        start: start as u64,
+        number,
         is_fresh: false,
     })
 }
@@ -190,17 +209,17 @@ pub fn prepare<D: Disk>(
     node: u8,
     nodes: u8,
 ) -> Result<Found, OpenCause>
-    ensures kept { IfOk result (λ found. BytesAreKept (header node nodes) found.bytes.items) }
-    ensures gates { IfOk result (λ found. found.gates.items
-        ≡ places 16 (listed_in 16 found.bytes.items)) }
-    ensures count { IfOk result (λ found. length found.gates.items < 2 ^ 32) }
-    ensures none { IfOk result (λ found. found.is_fresh ≡ true
-        → listed_in 16 found.bytes.items ≡ []) }
+    ensures kept { IfOk result (λ found. IsFrontKept found.bytes.items found.gates.items) }
+    ensures near { IfOk result (λ found. found.start + length found.bytes.items ≤ 2 ^ 63) }
+    ensures few { IfOk result (λ found. found.number ≤ 9223372036854775808) }
+    ensures none { IfOk result (λ found. found.is_fresh ≡ true → IsNoLog found.start found.number
+        (listed_in 0 found.bytes.items)) }
     ensures fresh { (D.state disk.old).honest
         → IfOk result (λ found. found.is_fresh ≡ true → IsFresh (D.state disk.new).content) }
     ensures log { (D.state disk.old).honest
         → IfOk result (λ found. found.is_fresh ≡ false
-        → IsLog (header node nodes) (D.state disk.new).content (listed_in 16 found.bytes.items)) }
+        → IsLogAt node nodes (D.state disk.new).content found.number found.start
+        (listed_in 0 found.bytes.items)) }
     ensures content { (D.state disk.old).honest
         → OnOk result ((D.state disk.new).content ≡ (D.state disk.old).content) }
     ensures content_damaged { (D.state disk.old).honest → (at : ℕ)
@@ -208,7 +227,7 @@ pub fn prepare<D: Disk>(
         → (D.state disk.new).content ≡ (D.state disk.old).content }
     ensures stable { (D.state disk.old).honest → OnOk result (IsStable (D.state disk.new)) }
     ensures changes { OnOk result (8 ≤ D.spare_changes disk.new) }
-    ensures room { OnOk result (18 ≤ D.spare_bytes disk.new) }
+    ensures room { OnOk result (82 ≤ D.spare_bytes disk.new) }
     ensures damaged { (D.state disk.old).honest → (at : ℕ) → IsErrOf result (causes.Damaged at)
         → IsDamaged node nodes (D.state disk.old).content at }
     ensures told { (at : ℕ) → IsErrOf result (causes.Damaged at) → (content : List ℕ)
@@ -221,9 +240,9 @@ pub fn prepare<D: Disk>(
     ensures honest { (D.state disk.old).honest → (D.state disk.new).honest }
     ensures no_better { (D.state disk.new).honest → (D.state disk.old).honest }
 {
-    // The sync here, and the eight changes of a header, which has 18 bytes with its gate written
+    // The sync here, and the eight changes of a header, which has 82 bytes with its gate written
     // twice.
-    disk.make_room(9, 18)?;
+    disk.make_room(9, 82)?;
     disk.sync()?;
     let content = read_whole(alloc, disk)?;
     read_log(alloc, content, node, nodes)

@@ -3,17 +3,18 @@ ghost use Rattle.std.specs.Prelude.{get_or, IfOk, IfErr, IsErrOf, OnOk, OnErr, I
 ghost use Rattle.mn_io.specs.DiskModel.{IsStable, LeavesOnly, NoneNew, DiskStays, WritesNothing};
 ghost use Rattle.mn_io.specs.Faults.{HasCause, Rose};
 ghost use Rattle.mn_redo.specs.Appender.{IsLogOf};
-ghost use Rattle.mn_redo.specs.Grammar.{header, IsBeforeOrAfter, IsDamaged, IsFresh, IsLog};
-ghost use Rattle.mn_redo.specs.Grammar.{IsStaged, Stands, places};
+ghost use Rattle.mn_redo.specs.Grammar.{HaveSizes, IsBeforeOrAfter, IsDamaged, IsFresh, IsLogAt};
+ghost use Rattle.mn_redo.specs.Grammar.{IsOneOrOther, IsStagedAt, Stands, place_for, places};
+ghost use Rattle.mn_redo.specs.Grammar.{records, total, whole_log};
 ghost use Rattle.mn_redo.specs.Redo.{HasHeader, StandsFor};
 ghost use Rattle.mn_redo.specs.declared.open.OpenCause.TheVariants as causes;
 
 use crate::appender::Appender;
 use crate::body::body_of;
-use crate::change::stage;
+use crate::change::{place_all, stage, stage_all};
 use crate::open::OpenCause;
 use mn_base::NodeNo;
-use mn_io::{Disk, Fault, NoMemory, make_room};
+use mn_io::{Bytes, Disk, Fault, NoMemory, make_room};
 use std::alloc::Global;
 use std::marker::Model;
 
@@ -37,9 +38,9 @@ pub enum Phase {
 #[derive(Drop)]
 pub struct Redo<D: Disk> {
     appender: Appender<D>,
-    /// The log up to its closed gate.
+    /// The log from its beginning up to its closed gate.
     bytes: Vec<u8>,
-    /// The places of the gates of its bodies.
+    /// The places of the gates of its bodies from its beginning on.
     gates: Vec<u64>,
     spare_bodies: u32,
     spare_bytes: usize,
@@ -58,7 +59,10 @@ impl<D: Disk> Model for Redo<D> {
       node = r.appender.node;
       nodes = r.appender.nodes;
       phase = r.appender.phase;
-      bodies = listed_in 16 r.bytes.items;
+      start = r.appender.start;
+      number = r.appender.number;
+      tail = r.appender.tail;
+      bodies = listed_in 0 r.bytes.items;
       spare_bodies = r.spare_bodies;
       spare_bytes =
           r.spare_bytes;
@@ -93,7 +97,8 @@ impl<D: Disk> Redo<D> {
             → IfOk result (λ redo. redo.phase ≡ Phase.Fresh → IsFresh (D.state disk).content) }
         ensures used { (D.state disk).honest
             → IfOk result (λ redo. redo.phase ≡ Phase.Started
-            → IsLog (header node.0 nodes) (D.state disk).content redo.bodies) }
+            → IsLogAt node.0 nodes (D.state disk).content redo.number redo.start redo.bodies) }
+        ensures tail { IfOk result (λ redo. redo.tail ≡ length (records redo.bodies)) }
         ensures going { IfOk result (λ redo. redo.phase ≢ Phase.Closing) }
         ensures node { IfOk result (λ redo. redo.node ≡ node.0) }
         ensures nodes { IfOk result (λ redo. redo.nodes ≡ nodes) }
@@ -157,6 +162,7 @@ impl<D: Disk> Redo<D> {
             → OnOk result (StandsFor (D.state self.new.disk) self.old.node self.old.nodes
             self.new.bodies) }
         ensures none { OnOk result (self.new.phase ≡ Phase.Fresh → self.new.bodies ≡ []) }
+        ensures tail { OnOk result (self.new.tail ≡ length (records self.new.bodies)) }
         ensures fresh { (D.state self.old.disk).honest
             → OnOk result (self.new.phase ≡ Phase.Fresh → IsFresh (D.state self.old.disk).content) }
         ensures going { OnOk result (self.new.phase ≢ Phase.Closing) }
@@ -201,6 +207,9 @@ impl<D: Disk> Redo<D> {
         ensures bodies { self.new.bodies ≡ self.old.bodies }
         ensures spare_bodies { self.new.spare_bodies ≡ self.old.spare_bodies }
         ensures spare_bytes { self.new.spare_bytes ≡ self.old.spare_bytes }
+        ensures place { self.new.start ≡ self.old.start }
+        ensures number { self.new.number ≡ self.old.number }
+        ensures tail { self.new.tail ≡ self.old.tail }
         ensures stands { (D.state self.old.disk).honest
             → StandsFor (D.state self.new.disk) self.old.node self.old.nodes self.old.bodies }
         ensures used { self.old.phase ≡ Phase.Started → self.new ≡ self.old }
@@ -235,6 +244,9 @@ impl<D: Disk> Redo<D> {
         ensures no_fewer { self.old.spare_bodies ≤ self.new.spare_bodies }
         ensures no_less { self.old.spare_bytes ≤ self.new.spare_bytes }
         ensures phase { self.new.phase ≡ self.old.phase }
+        ensures place { self.new.start ≡ self.old.start }
+        ensures number { self.new.number ≡ self.old.number }
+        ensures tail { self.new.tail ≡ self.old.tail }
         ensures bodies { self.new.bodies ≡ self.old.bodies }
         ensures node { self.new.node ≡ self.old.node }
         ensures nodes { self.new.nodes ≡ self.old.nodes }
@@ -270,6 +282,9 @@ impl<D: Disk> Redo<D> {
         ensures bodies { OnOk result (self.old.spare_bodies ≤ self.new.spare_bodies + 1) }
         ensures bytes { OnOk result (self.old.spare_bytes
             ≤ self.new.spare_bytes + length body.now) }
+        ensures place { self.new.start ≡ self.old.start }
+        ensures number { self.new.number ≡ self.old.number }
+        ensures tail { OnOk result (self.new.tail ≡ self.old.tail + 5 + length body.now) }
 
         // At Ok each image of the disk stands for the list with the body.
         ensures stable { (D.state self.old.disk).honest
@@ -301,6 +316,68 @@ impl<D: Disk> Redo<D> {
         Ok(())
     }
 
+    /// Whether the log may be shortened: its number isn't the last one.
+    pub fn can_shorten(&self) -> bool
+        ensures { IsTrue result ↔ (self.now.number ≢ 2 ^ 63) }
+    {
+        self.appender.can_shorten()
+    }
+
+    /// The bytes of records since the log was opened or shortened; at opening of the whole log.
+    pub fn tail(&self) -> u64
+        ensures { result ≡ self.now.tail }
+    {
+        self.appender.tail()
+    }
+
+    /// Puts another list in place of the log's; at `Ok` it is stable. It uses up one spare body
+    /// more than there are bodies, and as many spare bytes as they have. `Fault` comes only where
+    /// the disk's count of faults rose; after it only `close` may be called.
+    pub fn shorten(&mut self, bodies: &[Bytes]) -> Result<(), Fault>
+        requires started { self.old.phase ≡ Phase.Started }
+        requires can { self.old.number ≢ 2 ^ 63 }
+        requires sizes { HaveSizes bodies.now }
+        requires spare_bodies { length bodies.now < self.old.spare_bodies }
+        requires spare_bytes { total bodies.now ≤ self.old.spare_bytes }
+        ensures started { OnOk result (self.new.phase ≡ Phase.Started) }
+        ensures closing { OnErr result (self.new.phase ≡ Phase.Closing) }
+        ensures list { OnOk result (self.new.bodies ≡ bodies.now) }
+        ensures bodies { OnOk result (self.old.spare_bodies
+            ≤ self.new.spare_bodies + length bodies.now + 1) }
+        ensures bytes { OnOk result (self.old.spare_bytes
+            ≤ self.new.spare_bytes + total bodies.now) }
+        ensures number { OnOk result (self.new.number ≡ self.old.number + 1) }
+        ensures place { OnOk result (self.new.start ≡ place_for self.old.start
+            (self.old.start + length (records self.old.bodies)) (length (whole_log bodies.now))) }
+        ensures tail { OnOk result (self.new.tail ≡ 0) }
+
+        // At Ok each image of the disk stands for the new list.
+        ensures stable { (D.state self.old.disk).honest
+            → OnOk result (StandsFor (D.state self.new.disk) self.old.node self.old.nodes
+            bodies.now) }
+
+        // A crash at any moment of the call leaves the old list or the new one.
+        ensures any_moment { (D.state self.old.disk).honest
+            → LeavesOnly (D.state self.old.disk) (D.state self.new.disk)
+            (IsOneOrOther self.old.node self.old.nodes self.old.bodies bodies.now) }
+        ensures images { (D.state self.old.disk).honest → (c : List ℕ)
+            → (D.state self.new.disk).images c
+            → IsOneOrOther self.old.node self.old.nodes self.old.bodies bodies.now c }
+        ensures header { (D.state self.old.disk).honest → HasHeader (D.state self.new.disk) }
+        ensures node { self.new.node ≡ self.old.node }
+        ensures nodes { self.new.nodes ≡ self.old.nodes }
+        ensures honest { (D.state self.old.disk).honest → (D.state self.new.disk).honest }
+        ensures no_better { (D.state self.new.disk).honest → (D.state self.old.disk).honest }
+        ensures cause { HasCause (D.faults self.old.disk) (D.faults self.new.disk) result }
+    {
+        self.appender.shorten(bodies)?;
+        stage_all(&mut self.bytes, bodies);
+        place_all(&mut self.gates, bodies);
+        self.spare_bodies -= bodies.len() as u32 + 1;
+        self.spare_bytes -= self.bytes.len() - 1 - 5 * bodies.len();
+        Ok(())
+    }
+
     /// Writes all of a body's record but its open gate, so that a crash leaves the list without it.
     /// After it only `close` may be called. `Fault` comes only where the disk's count of faults
     /// rose.
@@ -320,7 +397,7 @@ impl<D: Disk> Redo<D> {
 
         // At Ok the record stands on the disk behind a closed gate.
         ensures half { (D.state self.old.disk).honest
-            → OnOk result (IsStaged (header self.old.node self.old.nodes) self.old.bodies body.now
+            → OnOk result (IsStagedAt self.old.node self.old.nodes self.old.bodies body.now
             (D.state self.new.disk).content) }
         ensures stable { (D.state self.old.disk).honest
             → OnOk result (IsStable (D.state self.new.disk)) }
@@ -361,22 +438,16 @@ impl<D: Disk> Redo<D> {
         requires number { number < length self.now.bodies }
         ensures { result.now ≡ get_or self.now.bodies number [] }
     {
-        body_of(
-            &self.bytes,
-            &self.gates,
-            self.appender.node(),
-            self.appender.nodes(),
-            number as usize,
-        )
+        body_of(&self.bytes, &self.gates, number as usize)
     }
 
     /// The place on the disk of the gate of a body, whose number is below the count.
     pub fn gate(&self, number: u32) -> u64
         requires going { self.now.phase ≢ Phase.Closing }
         requires number { number < length self.now.bodies }
-        ensures { result ≡ get_or (places 16 self.now.bodies) number 0 }
+        ensures { result ≡ get_or (places self.now.start self.now.bodies) number 0 }
     {
-        self.gates[number as usize]
+        self.appender.begins() + self.gates[number as usize]
     }
 
     /// Whether the disk was read as fresh and `start` hasn't written its header.
@@ -403,6 +474,9 @@ impl<D: Disk> Redo<D> {
         ensures node { result.node ≡ self.node }
         ensures nodes { result.nodes ≡ self.nodes }
         ensures phase { result.phase ≡ self.phase }
+        ensures place { result.start ≡ self.start }
+        ensures number { result.number ≡ self.number }
+        ensures tail { result.tail ≡ self.tail }
         ensures log { self.phase ≢ Phase.Closing → IsLogOf D.state result self.bodies }
     {
         self.appender

@@ -6,8 +6,10 @@ use std::alloc::Global;
 use std::test::Fail;
 
 /// The log of node 1 of two with three bodies, of 5, 0 and 5 bytes.
-const THREE: &[u8] =
-    b"\x01MNLOG\x01\x01\x02\0\0\0\0\0\0\0\x01\0\0\0\x05first\x01\0\0\0\0\x01\0\0\0\x05third\0";
+const THREE: &[u8] = b"\x01MNLOG\x02\x01\x02\0\0\0\0\0\0\0\
+    \0\0\0\0\0\0\0\0\0\0\0\0\0\0\0\0\0\0\0\0\0\0\0\0\0\0\0\0\0\0\0\0\
+    \0\0\0\0\0\0\0\0\0\0\0\0\0\0\0\0\0\0\0\0\0\0\0\0\0\0\0\0\0\0\0\0\
+    \x01\0\0\0\x05first\x01\0\0\0\0\x01\0\0\0\x05third\0";
 
 #[test]
 fn a_log_is_spelled_as_its_format_says(rt: HostRuntime) -> Result<(), Fail> {
@@ -16,13 +18,13 @@ fn a_log_is_spelled_as_its_format_says(rt: HostRuntime) -> Result<(), Fail> {
     let redo = open(rt.alloc(), &content, &[])?;
     assert!(rt; redo.count() == 3);
     if redo.count() == 3 {
-        assert!(rt; redo.gate(0) == 16 && redo.gate(1) == 26 && redo.gate(2) == 31);
+        assert!(rt; redo.gate(0) == 80 && redo.gate(1) == 90 && redo.gate(2) == 95);
     }
     Ok(())
 }
 
 /// Where bytes are damaged, if they are.
-fn damage(alloc: Global, content: &[u8]) -> Result<Option<u64>, Fail> {
+pub fn damage(alloc: Global, content: &[u8]) -> Result<Option<u64>, Fail> {
     match Redo::open(alloc, disk_of(alloc, content, &[])?, NodeNo(1), 2) {
         Ok(_redo) => Ok(None),
         Err(failed) => match failed.cause {
@@ -51,19 +53,23 @@ fn damage_of_first(alloc: Global, count: usize) -> Result<Option<u64>, Fail> {
 }
 
 /// A byte that is changed, its new value, and where the log is damaged then.
-const CHANGED: [(usize, u8, Option<u64>); 12] = [
+const CHANGED: [(usize, u8, Option<u64>); 16] = [
     (0, 0, None),
     (5, 0, Some(0)),
-    (6, 2, Some(0)),
+    (6, 1, Some(0)),
+    (6, 3, Some(0)),
     (7, 0, Some(0)),
     (8, 3, Some(0)),
     (15, 1, Some(0)),
-    (16, 0, None),
-    (16, 255, None),
-    (20, 6, None),
-    (20, 255, Some(16)),
-    (27, 255, Some(26)),
-    (41, 1, Some(41)),
+    (16, 1, Some(16)),
+    (48, 1, Some(48)),
+    (79, 1, None),
+    (80, 0, None),
+    (80, 255, None),
+    (84, 6, None),
+    (84, 255, Some(80)),
+    (91, 255, Some(90)),
+    (105, 1, Some(105)),
 ];
 
 #[test]
@@ -76,13 +82,13 @@ fn damage_is_named_by_its_place(rt: HostRuntime) -> Result<(), Fail> {
 
 /// How many bytes are left, and where the log is damaged then.
 const CUT: [(usize, Option<u64>); 7] = [
-    (16, None),
-    (17, Some(16)),
-    (25, Some(16)),
-    (26, Some(16)),
-    (27, Some(26)),
-    (41, Some(31)),
-    (42, None),
+    (80, None),
+    (81, Some(80)),
+    (89, Some(80)),
+    (90, Some(80)),
+    (91, Some(90)),
+    (105, Some(95)),
+    (106, None),
 ];
 
 #[test]

@@ -7,3 +7,5 @@ mod appended;
 mod damaged;
 #[cfg(test)]
 mod logs;
+#[cfg(test)]
+mod shortened;

@@ -11,4 +11,4 @@ returns-clause-staged g c h before bodies log is =
 
 pub returns-clause-any_moment : goal.returns-clause-any_moment
 returns-clause-any_moment g c h before bodies log is =
-    LeavesOnly-weaker _ _ _ _ (λ f torn. stage_torn before bodies c.args.body.now (c.args.gate + 1) _ f _ log (omega (arith, is, length-append before (records bodies))) torn) (c.change.ensures.any_moment h)
+    LeavesOnly-weaker _ _ _ _ (λ f torn. stage_torn before bodies c.args.body.now (c.args.gate + 1) _ f _ log (omega (arith, is, length-append before (records bodies))) torn) (c.change.ensures.any_moment h (c.requires.stable h))

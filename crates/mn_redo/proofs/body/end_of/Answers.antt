@@ -1,5 +1,4 @@
-use Rattle.std.proofs.Common.{◌≡◌, List, ◌+◌, ℕ, suc, get_or, arith, ap}
-use Rattle.mn_redo.specs.Grammar.{header}
+use Rattle.std.proofs.Common.{◌≡◌, [], List, ◌+◌, ℕ, suc, get_or, arith, ap}
 use Rattle.mn_redo.proofs.Placed.{gates_length, gate_place, next_place, bytes_length, end_last}
 use Rattle.mn_redo.proofs.body.end_of.Goals as goal
 
@@ -8,11 +7,11 @@ next_number gates k d = let e : k + 1 ≡ suc k = omega arith in ap (λ (n : ℕ
 
 pub returns-then-number-gates-clause-end : goal.returns-then-number-gates-clause-end
 returns-then-number-gates-clause-end c =
-    omega (arith, next_number c.args.gates.now c.args.number 0, gate_place (header c.args.node c.args.nodes) c.args.bytes.now c.args.gates.now c.args.number c.requires.kept c.requires.gates c.requires.number 0, next_place (header c.args.node c.args.nodes) c.args.bytes.now c.args.gates.now c.args.number c.requires.kept c.requires.gates c.requires.number 0 (omega (arith, c.if-number-gates.true)))
+    omega (arith, next_number c.args.gates.now c.args.number 0, gate_place [] c.args.bytes.now c.args.gates.now c.args.number c.requires.kept c.requires.gates c.requires.number 0, next_place [] c.args.bytes.now c.args.gates.now c.args.number c.requires.kept c.requires.gates c.requires.number 0 (omega (arith, c.if-number-gates.true)))
 
 pub returns-then-number-gates-clause-within : goal.returns-then-number-gates-clause-within
 returns-then-number-gates-clause-within c =
-    omega (arith, next_number c.args.gates.now c.args.number 0, bytes_length (header c.args.node c.args.nodes) c.args.bytes.now c.args.gates.now c.args.number c.requires.kept c.requires.gates c.requires.number, next_place (header c.args.node c.args.nodes) c.args.bytes.now c.args.gates.now c.args.number c.requires.kept c.requires.gates c.requires.number 0 (omega (arith, c.if-number-gates.true)))
+    omega (arith, next_number c.args.gates.now c.args.number 0, bytes_length [] c.args.bytes.now c.args.gates.now c.args.number c.requires.kept c.requires.gates c.requires.number, next_place [] c.args.bytes.now c.args.gates.now c.args.number c.requires.kept c.requires.gates c.requires.number 0 (omega (arith, c.if-number-gates.true)))
 
 pub returns-clause-end : goal.returns-clause-end
-returns-clause-end c = omega (arith, gate_place (header c.args.node c.args.nodes) c.args.bytes.now c.args.gates.now c.args.number c.requires.kept c.requires.gates c.requires.number 0, end_last (header c.args.node c.args.nodes) c.args.bytes.now c.args.gates.now c.args.number c.requires.kept c.requires.gates c.requires.number (omega (arith, c.if-number-gates.false, gates_length (header c.args.node c.args.nodes) c.args.bytes.now c.args.gates.now c.args.number c.requires.kept c.requires.gates c.requires.number, c.requires.number)))
+returns-clause-end c = omega (arith, gate_place [] c.args.bytes.now c.args.gates.now c.args.number c.requires.kept c.requires.gates c.requires.number 0, end_last [] c.args.bytes.now c.args.gates.now c.args.number c.requires.kept c.requires.gates c.requires.number (omega (arith, c.if-number-gates.false, gates_length [] c.args.bytes.now c.args.gates.now c.args.number c.requires.kept c.requires.gates c.requires.number, c.requires.number)))

@@ -1,11 +1,11 @@
-use Rattle.std.proofs.Common.{length, ◌-◌, ◌<◌, ◌^◌}
-use Rattle.mn_redo.specs.Grammar.{header, IsFront}
+use Rattle.std.proofs.Common.{[], length, ◌-◌, ◌<◌, ◌^◌}
+use Rattle.mn_redo.specs.Grammar.{IsFront}
 use Rattle.mn_redo.proofs.open.scan.Given as goal
 
 -- open records stand in front of the place, and a gate at it
 abbrev pub invariant-loop-at : goal.invariant-loop-at
 invariant-loop-at l = record {
-  front : IsFront (header l.node l.nodes) l.bytes l.gates.items l.at;
+  front : IsFront [] l.bytes l.gates.items l.at;
   within : l.at < length l.bytes;
   count : length l.gates.items < 2 ^ 32;
 }

@@ -1,22 +1,21 @@
-use Rattle.std.proofs.Common.{◌≡◌, ◌<◌, ℕ, List, length, get_or, arith, ap}
+use Rattle.std.proofs.Common.{◌≡◌, [], ◌<◌, ℕ, List, length, get_or, arith, ap}
 use Rattle.mn_redo.proofs.Placed.{gates_length, gate_place, bytes_length}
-use Rattle.mn_redo.specs.Grammar.{header}
 use Rattle.mn_redo.specs.Log.{listed_in}
 use Rattle.mn_redo.proofs.front.Front.body.Goals as goal
 
 pub body_of-requires-clause-index : goal.body_of-requires-clause-index
 body_of-requires-clause-index c =
     let front = c.self.inside in
-    let kept = c.self.invariant in
-    let within : c.args.number < length (listed_in 16 front.bytes.items) = omega (arith, c.requires.number, ap length c.self.view_is) in
-    omega (arith, within, ap length c.deref-2.ensures.value, gates_length (header front.node front.nodes) front.bytes.items front.gates.items c.args.number kept.kept kept.gates_are within)
+    let kept = c.self.invariant.0 in
+    let within : c.args.number < length (listed_in 0 front.bytes.items) = omega (arith, c.requires.number, ap (λ s. length s.bodies) c.self.view_is) in
+    omega (arith, within, ap length c.deref-2.ensures.value, gates_length [] front.bytes.items front.gates.items c.args.number kept.kept kept.gates_are within)
 
 pub body_of-requires-clause-start : goal.body_of-requires-clause-start
 body_of-requires-clause-start c =
     let front = c.self.inside in
-    let kept = c.self.invariant in
-    let within : c.args.number < length (listed_in 16 front.bytes.items) = omega (arith, c.requires.number, ap length c.self.view_is) in
+    let kept = c.self.invariant.0 in
+    let within : c.args.number < length (listed_in 0 front.bytes.items) = omega (arith, c.requires.number, ap (λ s. length s.bodies) c.self.view_is) in
     let gate : get_or c.deref-2.result.now c.args.number 0 ≡ get_or front.gates.items c.args.number 0 = ap (λ (l : List ℕ). get_or l c.args.number 0) c.deref-2.ensures.value in
-    let place = gate_place (header front.node front.nodes) front.bytes.items front.gates.items c.args.number kept.kept kept.gates_are within 0 in
-    let long = bytes_length (header front.node front.nodes) front.bytes.items front.gates.items c.args.number kept.kept kept.gates_are within in
+    let place = gate_place [] front.bytes.items front.gates.items c.args.number kept.kept kept.gates_are within 0 in
+    let long = bytes_length [] front.bytes.items front.gates.items c.args.number kept.kept kept.gates_are within in
     omega (arith, gate, place, long, ap length c.deref.ensures.value)

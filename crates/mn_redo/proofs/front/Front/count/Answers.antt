@@ -6,4 +6,4 @@ use Rattle.mn_redo.proofs.front.Front.count.Goals as goal
 pub returns : goal.returns
 returns c =
     let front = c.self.inside in
-    c.len.ensures ∙ front.gates.ok.0 ∙ ap length c.self.invariant.gates_are ∙ length-places 16 (listed_in 16 front.bytes.items) ∙ ap length c.self.view_is
+    c.len.ensures ∙ front.gates.ok.0 ∙ ap length c.self.invariant.0.gates_are ∙ length-places 0 (listed_in 0 front.bytes.items) ∙ ap (λ s. length s.bodies) c.self.view_is
