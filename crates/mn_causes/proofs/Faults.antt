@@ -151,8 +151,9 @@ copied_root entries op (Some height) page copied = absurd cc
 
 bad_page : (memory : List (List ℕ)) (store : Store) (holds : Holds memory store) (seens : List Seen)
     → ((seen : Seen) → Contains seens seen → IsSeenIn memory seen)
-    → (op : Op) (addr : Addr) (seq : ℕ) → MeetsBadPage seens op addr seq → TooHigh seens
-bad_page memory store holds seens all op addr seq (seen, key, height, entries, has, (catalog, in', sees, way), place, fault) = by fault
+    → (op : Op) (IsKey : List ℕ → Type 0) (addr : Addr) (seq : ℕ)
+    → MeetsBadPage seens op IsKey addr seq → TooHigh seens
+bad_page memory store holds seens all op IsKey addr seq (seen, key, height, entries, has, (catalog, in', sees, way), place, fault, is_key) = by fault
   where
     on : OnTree memory store holds op key addr height
     on = reached memory store holds seens all op key addr height way
@@ -227,20 +228,22 @@ bad_place memory store holds seen in' (inr (place, none)) =
 
 -- so the only fault is a page that is too high
 only_high : (memory : List (List ℕ)) (store : Store) (holds : Holds memory store) (seens : List Seen) → ((seen : Seen) → Contains seens seen → IsSeenIn memory seen) → (nodes : ℕ) → ((seen : Seen) → Contains seens seen → nodes ≡ length memory)
-    → (op : Op) (addr : Addr) (seq : ℕ) → MeetsFault nodes seens op (Path addr seq) → TooHigh seens
-only_high memory store holds seens all nodes nodes_are op addr seq (inl page) = bad_page memory store holds seens all op addr seq page
-only_high memory store holds seens all nodes nodes_are op addr seq (inr (inl (key, height, entries, (catalog, in', sees, way), out, number))) =
+    → (op : Op) (IsKey : List ℕ → Type 0) (addr : Addr) (seq : ℕ)
+    → MeetsFault nodes seens op IsKey (Path addr seq) → TooHigh seens
+only_high memory store holds seens all nodes nodes_are op IsKey addr seq (inl page) = bad_page memory store holds seens all op IsKey addr seq page
+only_high memory store holds seens all nodes nodes_are op IsKey addr seq (inr (inl (key, height, entries, (catalog, in', sees, way), out, number, is_key))) =
     let on = reached memory store holds seens all op key addr height way in
     let low : addr.node.0 < node_count holds.forest = page_node holds.forest addr on.page on.there in
     let many : length memory ≡ node_count holds.forest = ap (λ (m : List (List ℕ)). length m) (holds.spelled ∙ laid_is holds.forest) ∙ memory_length holds.forest in
     let is : nodes ≡ length memory = nodes_are catalog in' in
     absurd (omega arith)
-only_high memory store holds seens all nodes nodes_are op addr seq (inr (inr (seen, has, bad, place, number))) = absurd (bad_place memory store holds seen (all seen has) bad)
+only_high memory store holds seens all nodes nodes_are op IsKey addr seq (inr (inr (seen, has, bad, place, number))) = absurd (bad_place memory store holds seen (all seen has) bad)
 
 -- and no page is, so there is none
 pub no_fault : (memory : List (List ℕ)) (store : Store) (holds : Holds memory store) (seens : List Seen) → ((seen : Seen) → Contains seens seen → IsSeenIn memory seen) → (nodes : ℕ) → ((seen : Seen) → Contains seens seen → nodes ≡ length memory)
-    → (op : Op) (addr : Addr) (seq : ℕ) → MeetsFault nodes seens op (Path addr seq) → ⊥
-no_fault memory store holds seens all nodes nodes_are op addr seq fault = by (only_high memory store holds seens all nodes nodes_are op addr seq fault)
+    → (op : Op) (IsKey : List ℕ → Type 0) (addr : Addr) (seq : ℕ)
+    → MeetsFault nodes seens op IsKey (Path addr seq) → ⊥
+no_fault memory store holds seens all nodes nodes_are op IsKey addr seq fault = by (only_high memory store holds seens all nodes nodes_are op IsKey addr seq fault)
   where
     by : TooHigh seens → ⊥
     by (seen, at, page, has, sees, high) = let low = none_too_high memory store holds at page (page_seen memory store holds seen at page (all seen has).0 sees) in omega arith

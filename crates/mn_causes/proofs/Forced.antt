@@ -91,7 +91,7 @@ forced_stands start store past place e c number tid h stands answers = record {
     t = busy_tries start past h.run c number place (Forced tid) e stands answers
 
     r : LastRefused t
-    r = last_refused t (λ nodes seens op f. f)
+    r = last_refused t (λ nodes seens op taken f. f)
 
     is : (ps : List NodeNo) × (part : List PartItem) × (r.request ≡ Ask.Prepare tid ps part)
         × (r.reply ≡ Say.BadForced)

@@ -226,7 +226,7 @@ held_there start store past c number place n begins size holder h t =
     }
   where
     r : LastRefused t
-    r = last_refused t (λ nodes seens op f. f)
+    r = last_refused t (λ nodes seens op taken f. f)
 
     is : (r.node ≡ n) × (r.reply ≡ Say.BadLock begins size holder)
     is = lock_refused (seen_in r.try) r.node r.request r.reply n begins size holder r.refused

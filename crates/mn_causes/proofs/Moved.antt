@@ -361,7 +361,7 @@ moved_by_other start store past place e c number n begins expected found h stand
     t = busy_tries start past h.run c number place (Moved n begins expected found) e stands answers
 
     r : LastRefused t
-    r = last_refused t (λ nodes seens op f. f)
+    r = last_refused t (λ nodes seens op taken f. f)
 
     d : Differed (seen_in r.try) r.node n r.request r.reply begins expected found
     d = moved_refused (seen_in r.try) r.node r.request r.reply n begins expected found r.refused

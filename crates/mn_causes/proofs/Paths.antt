@@ -26,7 +26,7 @@ use Rattle.mn_runs.specs.Calls.{Issued, issue_in, issues_of, issue_named, is_by,
 use Rattle.mn_runs.specs.Clients.{AllowsExec}
 use Rattle.mn_runs.specs.Commits.{committed_by}
 use Rattle.mn_runs.specs.Seen.{Seen, seen_in, seen_at}
-use Rattle.mn_law.specs.Answers.{RefusedAs, MeetsFault, FailsAs, nodes_of}
+use Rattle.mn_law.specs.Answers.{RefusedAs, MeetsFault, FailsAs, IsKeyOf, nodes_of}
 use Rattle.mn_runs.specs.Protocol.{Start, start_nodes, FollowsProtocol, AllowedAt, AllowedBy, IsOfRun}
 use Rattle.mn_causes.specs.Causes.{BusyTries, IsInLast, CommitsWithin, PathMoved, PathByOther}
 use Rattle.mn_law.proofs.MakeRun.{runs_follow_protocol}
@@ -223,7 +223,7 @@ path_by_other start store past place e c number addr seq h stands answers = at_l
     follows = runs_follow_protocol start past h.run
 
     by_fault : (newer : List Entry) (x : Entry) (try : List Entry) (i : InLast t newer x try)
-        → MeetsFault (nodes_of (issues_of (since_begin (client_entries c t.before)))) (seen_in (x ∷ try)) t.op (Path addr seq) → CommitsWithin t (length i.before)
+        → MeetsFault (nodes_of (issues_of (since_begin (client_entries c t.before)))) (seen_in (x ∷ try)) t.op (IsKeyOf t.op t.failed.taken) (Path addr seq) → CommitsWithin t (length i.before)
     by_fault newer x try i fault = tell (stays_all start front.span front.base)
       where
         front : LogOf t newer x try i
@@ -312,7 +312,7 @@ path_by_other start store past place e c number addr seq h stands answers = at_l
 
         tell : StaysAll start front.span front.base ⊎ CommitIn front.span front.base
             → CommitsWithin t (length i.before)
-        tell (inl all) = absurd (no_fault (flat start front.base) some_holds.0 some_holds.1 (seen_in (x ∷ try)) (stood all) (nodes_of (issues_of (since_begin (client_entries c t.before)))) nodes_are t.op addr seq fault)
+        tell (inl all) = absurd (no_fault (flat start front.base) some_holds.0 some_holds.1 (seen_in (x ∷ try)) (stood all) (nodes_of (issues_of (since_begin (client_entries c t.before)))) nodes_are t.op (IsKeyOf t.op t.failed.taken) addr seq fault)
         tell (inr co) = from front.first
           where
             base_split : i.before ≡ co.newer ++ co.entry ∷ (co.older ++ front.base)
@@ -340,10 +340,10 @@ path_by_other start store past place e c number addr seq h stands answers = at_l
                 }
 
     at_last : (last : List Entry) → t.failed.last ≡ last → PathMoved past c number place addr seq
-    at_last [] is = absurd (subst (λ (l : List Entry). FailsAs (nodes_of (issues_of (since_begin (client_entries c t.before)))) t.op l (Path addr seq)) is t.failed.last_fails)
-    at_last (x ∷ try) is = by (subst (λ (l : List Entry). FailsAs (nodes_of (issues_of (since_begin (client_entries c t.before)))) t.op l (Path addr seq)) is t.failed.last_fails)
+    at_last [] is = absurd (subst (λ (l : List Entry). FailsAs (nodes_of (issues_of (since_begin (client_entries c t.before)))) t.op t.failed.taken l (Path addr seq)) is t.failed.last_fails)
+    at_last (x ∷ try) is = by (subst (λ (l : List Entry). FailsAs (nodes_of (issues_of (since_begin (client_entries c t.before)))) t.op t.failed.taken l (Path addr seq)) is t.failed.last_fails)
       where
-        by : FailsAs (nodes_of (issues_of (since_begin (client_entries c t.before)))) t.op (x ∷ try) (Path addr seq) → PathMoved past c number place addr seq
+        by : FailsAs (nodes_of (issues_of (since_begin (client_entries c t.before)))) t.op t.failed.taken (x ∷ try) (Path addr seq) → PathMoved past c number place addr seq
         by (inl (call, here, refused)) = absurd (path_refused (seen_in try) call.node call.request call.reply addr seq refused)
         by (inr fault) = record {
           tries = t;

@@ -12,7 +12,7 @@ use Rattle.mn_runs.specs.declared.entry.Entry.{Entry}
 use Rattle.mn_runs.specs.declared.entry.What.{What}
 use Rattle.mn_runs.specs.declared.entry.What.TheVariants.{Begin, Issue, Called, Stopped, Restarted, Abandoned, Answered}
 use Rattle.mn_runs.specs.Calls.{Call, call_in, issues_of, since_begin, client_entries}
-use Rattle.mn_law.specs.Answers.{RefusedAs, MeetsFault, FailsAs, none_refused, is_one_try, nodes_of}
+use Rattle.mn_law.specs.Answers.{RefusedAs, MeetsFault, FailsAs, IsKeyOf, none_refused, is_one_try, nodes_of}
 use Rattle.mn_runs.specs.Seen.{Seen, seen_in}
 use Rattle.mn_causes.specs.Causes.{BusyTries, IsCallInLast}
 use Rattle.mn_causes.proofs.LastTry.{InLast, in_last, as_in_last}
@@ -64,7 +64,9 @@ pub record LastRefused {past : List Entry} {c : ClientNo} {number place : ℕ} {
 
 -- the last try failed by a refusal, not by a fault of path
 abbrev IsRefusal : Busy → Type 0
-IsRefusal busy = (nodes : ℕ) (seens : List Seen) (op : Op) → MeetsFault nodes seens op busy → ⊥
+IsRefusal busy =
+    (nodes : ℕ) (seens : List Seen) (op : Op) (taken : List Entry)
+    → MeetsFault nodes seens op (IsKeyOf op taken) busy → ⊥
 
 pub last_refused : {past : List Entry} {c : ClientNo} {number place : ℕ} {busy : Busy} (t : BusyTries past c number place busy) → IsRefusal busy → LastRefused t
 last_refused {past} {c} {number} {place} {busy} t refusal = at_last t.failed.last refl
@@ -87,17 +89,17 @@ last_refused {past} {c} {number} {place} {busy} t refusal = at_last t.failed.las
           reply = call.reply;
           at_node = parts.0;
           what = parts.1;
-          one_try = subst (λ (l : List Entry). is_one_try l ≡ true) is (and_left (is_one_try t.failed.last) _ t.failed.tries);
+          one_try = and_left (none_refused try) _ (subst (λ (l : List Entry). is_one_try l ≡ true) is (and_left (is_one_try t.failed.last) _ t.failed.tries));
           refused = refused;
         }
 
     at_last : (last : List Entry) → t.failed.last ≡ last → LastRefused t
-    at_last [] is = absurd (subst (λ (l : List Entry). FailsAs (nodes_of (issues_of (since_begin (client_entries c t.before)))) t.op l busy) is t.failed.last_fails)
-    at_last (x ∷ try) is = by (subst (λ (l : List Entry). FailsAs (nodes_of (issues_of (since_begin (client_entries c t.before)))) t.op l busy) is t.failed.last_fails)
+    at_last [] is = absurd (subst (λ (l : List Entry). FailsAs (nodes_of (issues_of (since_begin (client_entries c t.before)))) t.op t.failed.taken l busy) is t.failed.last_fails)
+    at_last (x ∷ try) is = by (subst (λ (l : List Entry). FailsAs (nodes_of (issues_of (since_begin (client_entries c t.before)))) t.op t.failed.taken l busy) is t.failed.last_fails)
       where
-        by : FailsAs (nodes_of (issues_of (since_begin (client_entries c t.before)))) t.op (x ∷ try) busy → LastRefused t
+        by : FailsAs (nodes_of (issues_of (since_begin (client_entries c t.before)))) t.op t.failed.taken (x ∷ try) busy → LastRefused t
         by (inl (call, here, refused)) = by_call x try is call here refused
-        by (inr fault) = absurd (refusal (nodes_of (issues_of (since_begin (client_entries c t.before)))) (seen_in (x ∷ try)) t.op fault)
+        by (inr fault) = absurd (refusal (nodes_of (issues_of (since_begin (client_entries c t.before)))) (seen_in (x ∷ try)) t.op t.failed.taken fault)
 
 -- the call of it
 abbrev pub call_in_last : {past : List Entry} {c : ClientNo} {number place : ℕ} {busy : Busy} (t : BusyTries past c number place busy) (r : LastRefused t) (n : NodeNo) (request : Request) (reply : NodeReply)

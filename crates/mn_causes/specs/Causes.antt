@@ -27,7 +27,8 @@ use Rattle.mn_runs.specs.Calls.{call_in, is_try, is_prepare, is_decide, is_down_
 use Rattle.mn_runs.specs.Calls.{was_told, was_decided, client_entries, issues_of, since_begin}
 use Rattle.mn_runs.specs.Calls.{under_way}
 use Rattle.mn_runs.specs.Seen.{seen_at, seen_in}
-use Rattle.mn_law.specs.Answers.{FailedTries, MeetsFault, ShowsExpected, nodes_of, part_compares}
+use Rattle.mn_law.specs.Answers.{FailedTries, IsKeyOf, MeetsFault, ShowsExpected, nodes_of}
+use Rattle.mn_law.specs.Answers.{part_compares}
 use Rattle.mn_runs.specs.Protocol.{Start, run_number, records_of}
 use Rattle.mn_commits.specs.Laws.{part_of_request}
 use Rattle.mn_serial.specs.Meaning.{OpenedRun, StandsAt, AnswersOp, CommitsPlanAt}
@@ -47,7 +48,7 @@ pub record BusyTries (past : List Entry) (c : ClientNo) (number place : ℕ)
   pub op : Op
   pub of : under_way (client_entries c before) ≡ Some (record { number = number; op = op })
   pub failed : FailedTries (nodes_of (issues_of (since_begin (client_entries c before)))) op
-      (since_begin (client_entries c before)) busy
+      (client_entries c before) (since_begin (client_entries c before)) busy
 
 -- an entry of the last of these tries, at its place in the log: behind it, up to the answer, its
 -- client has the newer entries of the try and what came after the try, and nothing else
@@ -253,7 +254,7 @@ abbrev pub MeetsAt : {past : List Entry} {c : ClientNo} {number place at : ℕ} 
     {e : Entry} → (tries : BusyTries past c number place busy) → IsInLast tries at e → Type 0
 MeetsAt {past} {c} {number} {place} {at} {busy} {e} tries i =
     MeetsFault (nodes_of (issues_of (since_begin (client_entries c tries.before))))
-    (seen_in (e ∷ i.older)) tries.op busy
+    (seen_in (e ∷ i.older)) tries.op (IsKeyOf tries.op tries.failed.taken) busy
 
 -- the last try meets the fault at an entry, and at each such entry another operation's plan has
 -- been committed within the try

@@ -1,12 +1,13 @@
 -- When an operation may be answered, and how.
 use Rattle.std.specs.Prelude.{ℕ, ◌≡◌, ◌+◌, ◌-◌, ◌*◌, ◌^◌, ◌<◌, ◌≤◌, ◌⊎◌, Bool, true, false, not}
 use Rattle.std.specs.Prelude.{◌&&◌, ◌||◌, nat_eq, nat_lt, IsTrue, List, [], ◌∷◌, ◌++◌, length}
-use Rattle.std.specs.Prelude.{reverse, sum, Option, Some, None, ⊤, Contains, slice_get}
+use Rattle.std.specs.Prelude.{reverse, sum, Option, Some, None, ⊤, Contains, slice_get, map}
+use Rattle.std.specs.Prelude.{unwrap_or}
 use Rattle.std.specs.List.{list_all, list_any, flat_map, AllByRecursion}
 use Rattle.byteorder.specs.Endian.{big_bytes}
 use Rattle.mn_base.specs.Ids.{node_same}
 use Rattle.mn_base.specs.Order.{covers_key}
-use Rattle.mn_base.specs.Store.{number_named, op_version, max_versions}
+use Rattle.mn_base.specs.Store.{number_named, op_version, max_versions, step_key}
 use Rattle.mn_base.specs.Tree.{parents_of, has_version}
 use Rattle.mn_base.specs.declared.ids.NodeNo.{NodeNo}
 use Rattle.mn_base.specs.declared.ids.Addr.{Addr}
@@ -175,18 +176,33 @@ ReachesAddr seens op entries key addr height =
     (catalog : Seen) × Contains seens catalog × SeesCatalog catalog entries
     × Reached seens op key addr height
 
--- a read met a page at fault, at an address that the reads name
-abbrev pub MeetsBadPage : List Seen → Op → Addr → ℕ → Type 0
-MeetsBadPage seens op addr seq =
+-- a leaf that the entry brought ends at this key
+abbrev pub EndsAtKey : Entry → List ℕ → Type 0
+EndsAtKey e key =
+    (seen : Seen) × (addr : Addr) × (page : Page) × Contains (seen_at e) seen
+    × SeesPage seen addr page × (height_of page.body ≡ 0) × (page.high ≡ Some key)
+
+-- a key for which the operation walks: that of a step; where a scan stands, at its lower bound or
+-- behind the leaf that it took last; and where the root alone is looked at, the least key
+abbrev pub IsKeyOf : Op → List Entry → List ℕ → Type 0
+IsKeyOf (Tx version steps) taken key = Contains (map step_key steps) key
+IsKeyOf (Scan version low high limit) [] key = key ≡ unwrap_or low []
+IsKeyOf (Scan version low high limit) (e ∷ es) key = EndsAtKey e key
+IsKeyOf op taken key = key ≡ []
+
+-- a read met a page at fault, at an address that the reads name for one of these keys
+abbrev pub MeetsBadPage : List Seen → Op → (List ℕ → Type 0) → Addr → ℕ → Type 0
+MeetsBadPage seens op IsKey addr seq =
     (seen : Seen) × (key : List ℕ) × (height : Option ℕ) × (entries : List CatEntry)
     × Contains seens seen × ReachesAddr seens op entries key addr height
-    × (seen.place ≡ page_place addr) × IsAtFault entries op key height seen.bytes seq
+    × (seen.place ≡ page_place addr) × IsAtFault entries op key height seen.bytes seq × IsKey key
 
--- the reads name an address on a node that there is not
-abbrev pub MeetsBadAddr : ℕ → List Seen → Op → Addr → ℕ → Type 0
-MeetsBadAddr nodes seens op addr seq =
+-- the reads name, for one of these keys, an address on a node that there is not
+abbrev pub MeetsBadAddr : ℕ → List Seen → Op → (List ℕ → Type 0) → Addr → ℕ → Type 0
+MeetsBadAddr nodes seens op IsKey addr seq =
     (key : List ℕ) × (height : Option ℕ) × (entries : List CatEntry)
     × ReachesAddr seens op entries key addr height × (nodes ≤ addr.node.0) × (seq ≡ 0)
+    × IsKey key
 
 -- each parent has a lower number; newest first
 abbrev pub ParentsAreBelow : List (Option ℕ) → Type 0
@@ -212,21 +228,21 @@ MeetsBadPlace seens addr seq =
     (seen : Seen) × Contains seens seen × (IsBadCatalog seen ⊎ IsBadCount seen)
     × (addr ≡ record { node = seen.place.node; slot = 0 }) × (seq ≡ 0)
 
--- a read of a try met a fault of path
-abbrev pub MeetsFault : ℕ → List Seen → Op → Busy → Type 0
-MeetsFault nodes seens op (Path addr seq) =
-    MeetsBadPage seens op addr seq ⊎ MeetsBadAddr nodes seens op addr seq
+-- a read of a try met a fault of path, on the way of one of these keys
+abbrev pub MeetsFault : ℕ → List Seen → Op → (List ℕ → Type 0) → Busy → Type 0
+MeetsFault nodes seens op IsKey (Path addr seq) =
+    MeetsBadPage seens op IsKey addr seq ⊎ MeetsBadAddr nodes seens op IsKey addr seq
     ⊎ MeetsBadPlace seens addr seq
-MeetsFault nodes seens op busy = ⊥
+MeetsFault nodes seens op IsKey busy = ⊥
 
 -- a try, its entries newest first, failed so: its last call was refused, or a read of it met a
--- fault
-abbrev pub FailsAs : ℕ → Op → List Entry → Busy → Type 0
-FailsAs nodes op [] busy = ⊥
-FailsAs nodes op (e ∷ es) busy =
+-- fault on the way of a key of the operation, where a scan took so much before
+abbrev pub FailsAs : ℕ → Op → List Entry → List Entry → Busy → Type 0
+FailsAs nodes op taken [] busy = ⊥
+FailsAs nodes op taken (e ∷ es) busy =
     ((call : Call) × (call_in e.node e.what ≡ call ∷ [])
     × RefusedAs (seen_in es) call.node call.request call.reply busy)
-    ⊎ MeetsFault nodes (seen_in (e ∷ es)) op busy
+    ⊎ MeetsFault nodes (seen_in (e ∷ es)) op (IsKeyOf op taken) busy
 
 -- a Prepare or an Exec was refused
 abbrev pub is_refusal : NodeReply → Bool
@@ -237,11 +253,6 @@ is_refusal reply = false
 
 abbrev pub none_refused : List Entry → Bool
 none_refused es = list_all (λ c. not (is_refusal c.reply)) (calls_of es)
-
--- a refusal ends a try: there is none before its last entry
-abbrev pub is_one_try : List Entry → Bool
-is_one_try [] = true
-is_one_try (e ∷ es) = none_refused es
 
 abbrev pub is_any_prepare : Request → Bool
 is_any_prepare (Ask.Prepare tid participants part) = true
@@ -262,8 +273,24 @@ asks_catalog (Ask.Exec tid (Bare.Read start length ∷ [])) =
 asks_catalog request = false
 
 -- it asks node 0 for the catalog
+abbrev pub is_catalog_call : Call → Bool
+is_catalog_call c = nat_eq c.node.0 0 && asks_catalog c.request
+
 abbrev pub asks_for_catalog : List Entry → Bool
-asks_for_catalog es = list_any (λ c. nat_eq c.node.0 0 && asks_catalog c.request) (calls_of es)
+asks_for_catalog es = list_any is_catalog_call (calls_of es)
+
+-- of these calls, newest first, none but the oldest asks for the catalog; decisions of the try
+-- before may be older
+abbrev pub asks_at_first : List Call → Bool
+asks_at_first [] = true
+asks_at_first (c ∷ cs) =
+    (not (is_catalog_call c) || list_all (λ d. is_any_decide d.request) cs) && asks_at_first cs
+
+-- a refusal ends a try, and a read of the catalog begins one: there is no refusal before its last
+-- entry, and no such read behind its first call
+abbrev pub is_one_try : List Entry → Bool
+is_one_try [] = true
+is_one_try (e ∷ es) = none_refused es && asks_at_first (calls_of (e ∷ es))
 
 -- a later try reads everything anew: it asks for the catalog, and peeks at nothing
 abbrev pub reads_anew : List Entry → Bool
@@ -297,17 +324,20 @@ abbrev pub LeafIsNewest : Op → List Entry → Type 0
 LeafIsNewest (Scan version low high limit) try = BringsNone try
 LeafIsNewest op try = ⊤
 
--- a transaction, and a scan that took leaves, may fail by what was kept, with no call; each other
--- try asks for the catalog
-abbrev pub MayBeKept : Op → List Entry → List Entry → Type 0
-MayBeKept (Tx version steps) taken first = ⊤
-MayBeKept (Scan version low high limit) (e ∷ es) first = ⊤
-MayBeKept op taken first = IsTrue (asks_for_catalog first)
+-- a transaction may go by a catalog that its client's list showed before the operation, and a scan
+-- that took leaves by its own; each other try asks for the catalog
+abbrev pub MayBeKept : List Entry → Op → List Entry → List Entry → Type 0
+MayBeKept older (Tx version steps) taken first =
+    IsTrue (asks_for_catalog first) ⊎ ((entries : List CatEntry) × ShowsCatalog older entries)
+MayBeKept older (Scan version low high limit) (e ∷ es) first = ⊤
+MayBeKept older op taken first = IsTrue (asks_for_catalog first)
 
 -- eight tries failed, each from the second on anew and by a cause, and the last by this one. A scan
 -- counts from the leaf that it took last. The first may have no entry, where what it used was kept
 -- from earlier operations
-pub record FailedTries (nodes : ℕ) (op : Op) (now : List Entry) (busy : Busy) : Type 0 where
+pub record FailedTries (nodes : ℕ) (op : Op) (es now : List Entry) (busy : Busy) : Type 0 where
+  pub older : List Entry
+  pub all : es ≡ now ++ older
   pub rest : List Entry
   pub last : List Entry
   pub middle : List (List Entry)
@@ -316,15 +346,16 @@ pub record FailedTries (nodes : ℕ) (op : Op) (now : List Entry) (busy : Busy) 
   pub split : now ≡ rest ++ last ++ flat_map (λ try. try) middle ++ first ++ taken
   pub over : IsTrue (list_all (λ c. is_any_decide c.request) (calls_of rest))
   pub six : length middle ≡ 6
-  pub last_fails : FailsAs nodes op last busy
-  pub others_fail : AllByRecursion (λ try. (cause : Busy) × FailsAs nodes op try cause) middle
+  pub last_fails : FailsAs nodes op taken last busy
+  pub others_fail : AllByRecursion (λ try. (cause : Busy) × FailsAs nodes op taken try cause)
+      middle
   pub tries : IsTrue (is_one_try last && (list_all is_one_try middle && is_one_try first))
   pub anew : IsTrue (reads_anew last && list_all reads_anew middle)
   pub whole : IsWhole op taken
   pub took : EndsWithLeaf op taken
   pub leaves : LeafIsNewest op last × AllByRecursion (LeafIsNewest op) middle
       × LeafIsNewest op first
-  pub may_be_kept : MayBeKept op taken first
+  pub may_be_kept : MayBeKept older op taken first
 
 -- Answers
 
@@ -345,21 +376,24 @@ abbrev pub ends_refused : List Entry → Bool
 ends_refused [] = false
 ends_refused (e ∷ es) = list_any (λ c. is_refusal c.reply) (call_in e.node e.what)
 
--- a later try begins after one that failed: after a refusal or a fault; that the first failed may
--- not be seen, where it was not refused
-abbrev pub BeginsAfter : ℕ → Op → List Entry → Type 0
-BeginsAfter nodes op earlier =
-    IsTrue (none_refused earlier || ends_refused earlier)
-    ⊎ ((fault : Busy) × MeetsFault nodes (seen_in earlier) op fault)
+-- a later try begins after one that failed: after a refusal, after a fault, or after a first one
+-- that was not refused, of which no fault need be seen
+abbrev pub BeginsAfter : ℕ → Op → List Entry → List Entry → Type 0
+BeginsAfter nodes op older earlier =
+    IsTrue (ends_refused earlier)
+    ⊎ ((fault : Busy) × MeetsFault nodes (seen_in earlier) op (IsKeyOf op []) fault)
+    ⊎ (IsTrue (none_refused earlier && is_one_try earlier) × MayBeKept older op [] earlier)
 
 -- the last try of the operation, a later one that was not refused, and the decisions after it
-pub record LastTry (nodes : ℕ) (op : Op) (now : List Entry) (try : List Entry) : Type 0 where
+pub record LastTry (nodes : ℕ) (op : Op) (es now : List Entry) (try : List Entry) : Type 0 where
+  pub older : List Entry
+  pub all : es ≡ now ++ older
   pub rest : List Entry
   pub earlier : List Entry
   pub split : now ≡ rest ++ try ++ earlier
   pub over : IsTrue (list_all (λ c. is_any_decide c.request) (calls_of rest))
-  pub begins : BeginsAfter nodes op earlier
-  pub is_try : IsTrue (reads_anew try && none_refused try)
+  pub begins : BeginsAfter nodes op older earlier
+  pub is_try : IsTrue (reads_anew try && (none_refused try && is_one_try try))
 
 -- a node answered Down to a request that is no Decide, or stopped inside a Prepare that was not the
 -- last
@@ -399,19 +433,20 @@ ShowsAnswer es now op (Replied reply) =
     LastPlanReplies es now op reply ⊎ (IsTrue (are_given_up now) × SomeReadShows es now op reply)
     ⊎ (IsTrue (are_given_up now) × ScanShows (seen_in now) op reply)
 ShowsAnswer es now op (GaveUp busy) =
-    IsTrue (are_given_up now) × FailedTries (nodes_of (issues_of now)) op now busy
+    IsTrue (are_given_up now) × FailedTries (nodes_of (issues_of now)) op es now busy
 ShowsAnswer es now op (Down n) =
     IsTrue (are_given_up now) × IsTrue (list_any (is_down_cause n) (calls_of now))
 ShowsAnswer es now op (InDoubt tid n) =
     (i : Issued) × (before : List Entry) × LastIssue es now i before × (tid ≡ i.tid)
     × IsTrue (list_any (is_doubt_cause n tid) (calls_of now))
 ShowsAnswer es now op (Full need free) =
-    IsTrue (are_given_up now) × (try : List Entry) × LastTry (nodes_of (issues_of now)) op now try
+    IsTrue (are_given_up now) × (try : List Entry)
+    × LastTry (nodes_of (issues_of now)) op es now try
     × (free < need) × NeedsSlots (seen_in try) op need
     × FreeSlots (nodes_of (issues_of now)) (seen_in try) free
 ShowsAnswer es now op (Worn n start) =
     IsTrue (are_given_up now) × (try : List Entry) × (place : Place)
-    × LastTry (nodes_of (issues_of now)) op now try × (place.node ≡ n) × (place.start ≡ start)
+    × LastTry (nodes_of (issues_of now)) op es now try × (place.node ≡ n) × (place.start ≡ start)
     × WritesOld (seen_in try) op place × ShowsBytes (seen_in try) n start (big_bytes 8 (2 ^ 64 - 1))
 ShowsAnswer es now op NoMemory = IsTrue (are_given_up now)
 

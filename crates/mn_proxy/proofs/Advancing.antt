@@ -1,12 +1,13 @@
 -- What a try that goes on wants, and what its client's own list shows of that.
-use Rattle.std.proofs.Common.{◌≡◌, ◌⊎◌, inl, inr, ℕ, zero, suc, Bool, true, false, not, ◌&&◌}
-use Rattle.std.proofs.Common.{List, Option, Some, None, refl, subst, sym, ap, ◌∙◌, IsTrue}
+use Rattle.std.proofs.Common.{◌≡◌, ◌≢◌, ◌⊎◌, inl, inr, ℕ, zero, suc, Bool, true, false, not, ◌&&◌}
+use Rattle.std.proofs.Common.{List, [], ◌++◌, Contains, Option, Some, None, refl, subst, sym, ap, ◌∙◌, IsTrue}
 use Rattle.std.specs.Prelude.{MatchOption, ⊤}
 use Rattle.mn_base.specs.declared.answer.Answer.{Answer}
 use Rattle.mn_base.specs.declared.answer.Answer.TheVariants as answers
 use Rattle.mn_base.specs.declared.op.Op.{Op}
 use Rattle.mn_base.specs.declared.op.Op.TheVariants.{Tx, Snapshot, Branch, Scan, Versions}
 use Rattle.mn_base.specs.declared.reply.Reply.{Reply}
+use Rattle.mn_base.specs.declared.reply.Reply.TheVariants.{Pairs}
 use Rattle.mn_page.specs.declared.entry.CatEntry.{CatEntry}
 use Rattle.mn_base.specs.declared.op.Step.{Step}
 use Rattle.mn_scan.specs.Scan.{ScanState, may_be_leaf}
@@ -14,7 +15,12 @@ use Rattle.mn_txn.specs.Tries.{FreeSlotsAreLeft, TriesShowCauses, WornPagesShow}
 use Rattle.mn_runs.specs.declared.entry.Entry.{Entry}
 use Rattle.mn_runs.specs.Calls.{since_begin}
 use Rattle.mn_runs.specs.Clients.{is_plan}
-use Rattle.mn_law.specs.Shown.{ScanShows}
+use Rattle.mn_law.specs.Answers.{IsWhole}
+use Rattle.mn_law.specs.Shown.{ScanShows, ShowsCatalog}
+use Rattle.mn_law.proofs.Sees.{seen_in-append}
+use Rattle.mn_runs.proofs.Seen.{nothing}
+use Rattle.std.proofs.lemmas.List.{append-nil}
+use Rattle.std.proofs.lemmas.List.Elements.{Contains-append_cases}
 use Rattle.mn_runs.specs.Seen.{Seen, seen_in}
 use Rattle.mn_work.specs.declared.attempt.Attempt.{Attempt}
 use Rattle.mn_work.specs.declared.child.Child.{Child}
@@ -25,24 +31,26 @@ use Rattle.mn_work.specs.declared.next.Next.{Next}
 use Rattle.mn_work.specs.declared.work.Job.{Job}
 use Rattle.mn_work.specs.declared.work.Job.TheVariants as at
 use Rattle.mn_work.specs.declared.work.Work.{Work}
-use Rattle.mn_proxy.specs.Agrees.{AreComparesShown, AreOverNodes, IsOpen, JobAsked, KeptIsLast, MayPeekFor}
+use Rattle.mn_proxy.specs.Agrees.{AreComparesShown, AreOverNodes, IsKept, IsOpen, JobAsked, KeptIsLast, MayPeekFor}
 use Rattle.mn_work.specs.Attempts as attempts
 use Rattle.mn_work.specs.Children as children
 use Rattle.mn_work.specs.Descents as descents
-use Rattle.mn_proxy.specs.Jobs.{JobShows, ReadsShow, ReadsShowBy, ScanShown}
+use Rattle.mn_proxy.specs.Jobs.{IsKeyAt, JobShows, ReadsShow, ReadsShowBy, ScanShown, StandsAt}
 use Rattle.mn_work.specs.Scans as scans
-use Rattle.mn_proxy.specs.Tries.{HasAsked}
+use Rattle.mn_proxy.specs.Tries.{HasAsked, HasSentNone, HaveFailed, Origin}
 use Rattle.mn_work.specs.Walks.{FailsBy, IfLater, is_later}
 use Rattle.mn_work.specs.Knows.{KeepsKnown}
-use Rattle.mn_work.specs.Works.{BeginsBy, GetWants, IsJobIn, IsJobOf, IsStartable, JobIsLast, JobWants, KeepsOp, ScanEnds}
+use Rattle.mn_work.specs.Works.{BeginsBy, GetWants, GoesOnFrom, IsJobIn, IsJobOf, IsStartable, JobIsLast, JobWants, KeepsOp, ScanEnds}
 use Rattle.mn_work.specs.Works.{ScanWants, WantsNext}
 use Rattle.mn_proxy.proofs.ChildrenShow.{child_wants_for}
 use Rattle.mn_proxy.proofs.GetsShow.{PagesOrFails, get_wants_for}
-use Rattle.mn_proxy.proofs.ScansShow.{scan_ends_for, scan_wants_for}
+use Rattle.mn_proxy.proofs.ScansShow.{scan_ends_for, scan_wants_for, stands_alike}
 use Rattle.mn_proxy.proofs.Shown.{AnswerShown, DoesByLast, WantShown, later_is}
 use Rattle.mn_proxy.proofs.StepsShow.{steps_want_for}
 use Rattle.mn_work.proofs.Works.{AsksOrGoes, WentOn, asks_or_goes, begins_steps}
-use Rattle.mn_proxy.proofs.CatalogsShow.{begun_shows}
+use Rattle.mn_proxy.proofs.CatalogsShow.{Began, begun_shows, goes_stands}
+use Rattle.mn_proxy.proofs.Taking.{asked_any}
+use Rattle.mn_proxy.proofs.Tries.{decided_seen}
 
 -- What it tells
 
@@ -68,7 +76,8 @@ NextTold nodes failed now seens op entries job (Next.Plan mini reply) =
     DoesByLast op entries job mini reply
     × IfLater failed (AreComparesShown seens mini) × (mini.nodes ≡ nodes)
     × IsTrue (is_plan mini.items)
-NextTold nodes failed now seens op entries job (Next.Fails cause) = FailsBy nodes failed seens op cause
+NextTold nodes failed now seens op entries job (Next.Fails cause) =
+    FailsBy nodes failed seens op (IsKeyAt op job) cause
 NextTold nodes failed now seens op entries job (Next.Answers answer) =
     AnswerTold nodes failed now seens op answer
 NextTold nodes failed now seens op entries job Next.Catalog = ⊥
@@ -83,7 +92,7 @@ ShownStill failed now seens spoiled op entries job next =
 -- By jobs
 
 of_pages : (nodes failed : ℕ) (now : List Entry) (seens : List Seen) (op : Op)
-    (entries : List CatEntry) (job : Job) (next : Next) → PagesOrFails nodes failed seens op next
+    (entries : List CatEntry) (job : Job) (next : Next) → PagesOrFails nodes failed seens op (IsKeyAt op job) next
     → NextTold nodes failed now seens op entries job next
 of_pages nodes failed now seens op entries job (Next.Page addr peek) told = tt
 of_pages nodes failed now seens op entries job (Next.Fails cause) told = told
@@ -259,6 +268,63 @@ child_no_scan known (Scan name low high limit) c is = by known.catalog is
     by (Some entries) is = is.makes
 child_no_scan known Versions c is = tt
 
+-- Where a job that goes on stands
+
+-- it stands where it stood, unless it is answered
+abbrev pub StandsStill : Op → List Entry → Job → Next → Type 0
+StandsStill op taken job (Next.Answers answer) = ⊤
+StandsStill op taken job next = StandsAt op taken job
+
+stands_still : (op : Op) (taken : List Entry) (job : Job) (next : Next) → StandsAt op taken job
+    → StandsStill op taken job next
+stands_still op taken job (Next.Answers answer) stands = tt
+stands_still op taken job Next.Catalog stands = stands
+stands_still op taken job (Next.Page addr peek) stands = stands
+stands_still op taken job (Next.Count node peek) stands = stands
+stands_still op taken job (Next.Plan mini reply) stands = stands
+stands_still op taken job (Next.Fails cause) stands = stands
+
+-- no answer is wanted
+abbrev pub IsNoAnswer : Next → Type 0
+IsNoAnswer (Next.Answers answer) = ⊥
+IsNoAnswer next = ⊤
+
+no_answer : (next : Next) (answer : Answer) → IsNoAnswer next → next ≡ Next.Answers answer → ⊥
+no_answer next answer none is = subst IsNoAnswer is none
+
+-- a job that wants something has begun
+pub record WantsOn (op : Op) (taken : List Entry) (job : Job) (next : Next) : Type 0 where
+  pub stands : StandsStill op taken job next
+  pub begun : ((answer : Answer) × (next ≡ Next.Answers answer)) ⊎ (job ≢ at.Start)
+
+pub wants_on : (known : Known) (later : Bool) (op : Op) (taken : List Entry) (before after : Job)
+    (next : Next) → JobWants known later op before after next → StandsAt op taken before
+    → WantsOn op taken after next
+wants_on known later op taken (at.Get d) (at.Get e) next w stands =
+    record { stands = stands_still op taken (at.Get e) next stands; begun = inr (λ e. absurd cc) }
+wants_on known later (Tx name steps) taken (at.Transaction a) (at.Transaction b) next w stands =
+    record { stands = stands_still (Tx name steps) taken (at.Transaction b) next stands; begun = inr (λ e. absurd cc) }
+wants_on known later op taken (at.Child c) (at.Child d) next w stands =
+    record { stands = stands_still op taken (at.Child d) next stands; begun = inr (λ e. absurd cc) }
+wants_on known later op taken (at.Scan s) (at.Scan t) next w stands = record {
+  stands = stands_still op taken (at.Scan t) next (stands_alike op taken s t w.alike stands);
+  begun = inr (λ e. absurd cc);
+}
+wants_on known later op taken (at.Scan s) at.Start next w stands = ends next (some_same w.1.replies)
+  where
+    some_same : Some (Next.Answers (answers.Replied (Pairs w.0.pairs))) ≡ Some next
+        → Next.Answers (answers.Replied (Pairs w.0.pairs)) ≡ next
+    some_same e = cc
+
+    ends : (n : Next) → Next.Answers (answers.Replied (Pairs w.0.pairs)) ≡ n → WantsOn op taken at.Start n
+    ends (Next.Answers answer) is = record { stands = tt; begun = inl (answer, refl) }
+    ends Next.Catalog is = absurd cc
+    ends (Next.Page addr peek) is = absurd cc
+    ends (Next.Count node peek) is = absurd cc
+    ends (Next.Plan mini reply) is = absurd cc
+    ends (Next.Fails cause) is = absurd cc
+wants_on known later op taken before after next w stands = absurd w
+
 -- What a job that goes on wants
 
 pub record JobTells (nodes failed : ℕ) (now : List Entry) (seens : List Seen) (spoiled : Bool)
@@ -337,14 +403,16 @@ pub record OpenAs (es : List Entry) (known : Known) (w : Work) (try : List Entry
 
 pub open_as : (es : List Entry) (known : Known) (w v : Work) (o : IsOpen es known w)
     → v.op ≡ w.op → v.failed ≡ w.failed
-    → JobAsked known.nodes w.failed w.op (since_begin es) o.trying.before o.try known.catalog v.job
+    → StandsAt w.op o.began.from.taken v.job
+    → JobAsked known.nodes w.failed w.op (since_begin es) o.began.from o.try known.catalog v.job
     → ScanShown (since_begin es) v.spoiled w.op v.job
     → ReadsShowBy known w.failed (seen_in o.try) w.op v.job → JobIsLast es v.job
     → OpenAs es known v o.try
-open_as es known w v o op failed asked shown reads last =
+open_as es known w v o op failed place asked shown reads last =
     subst (λ (x : Work). OpenAs es known x o.try) (work_as w v op failed) (record {
       is = record {
         of = o.of;
+        began = record { from = o.began.from; all = o.began.all; place = place };
         try = o.try;
         trying = o.trying;
         leafless = o.leafless;
@@ -363,6 +431,7 @@ open_kept es known new w nodes catalog last o =
     subst (λ (n : Known). OpenAs es n w o.try) same (record {
       is = record {
         of = o.of;
+        began = o.began;
         try = o.try;
         trying = o.trying;
         leafless = o.leafless;
@@ -379,25 +448,16 @@ open_kept es known new w nodes catalog last o =
         ∙ ap (λ (c : Option (List CatEntry)). record { nodes = new.nodes; catalog = c; cache = new.cache }) (sym catalog)
 
 -- a job that goes on has asked for the catalog, where it had to
-asked_all : (nodes failed : ℕ) (op : Op) (now before try : List Entry) (entries : List CatEntry)
-    (job : Job) → HasAsked failed op before try × AreOverNodes nodes failed now
-    → JobAsked nodes failed op now before try (Some entries) job
-asked_all nodes failed op now before try entries at.Start asked = tt
-asked_all nodes failed op now before try entries (at.Get d) asked = asked
-asked_all nodes failed op now before try entries (at.Transaction a) asked = asked
-asked_all nodes failed op now before try entries (at.Child c) asked = asked
-asked_all nodes failed op now before try entries (at.Scan s) asked = asked
-
-asked_by : (nodes failed : ℕ) (op : Op) (now before try : List Entry) (entries : List CatEntry)
-    (known : Known) (later : Bool) (job after : Job) (next : Next)
+asked_by : (nodes failed : ℕ) (op : Op) (now : List Entry) (from : Origin) (try : List Entry)
+    (entries : List CatEntry) (known : Known) (later : Bool) (job after : Job) (next : Next)
     → JobWants known later op job after next
-    → JobAsked nodes failed op now before try (Some entries) job
-    → HasAsked failed op before try × AreOverNodes nodes failed now
-asked_by nodes failed op now before try entries known later at.Start after next w asked = absurd w
-asked_by nodes failed op now before try entries known later (at.Get d) after next w asked = asked
-asked_by nodes failed op now before try entries known later (at.Transaction a) after next w asked = asked
-asked_by nodes failed op now before try entries known later (at.Child c) after next w asked = asked
-asked_by nodes failed op now before try entries known later (at.Scan s) after next w asked = asked
+    → JobAsked nodes failed op now from try (Some entries) job
+    → HasAsked failed op from try × AreOverNodes nodes failed now
+asked_by nodes failed op now from try entries known later at.Start after next w asked = absurd w
+asked_by nodes failed op now from try entries known later (at.Get d) after next w asked = asked
+asked_by nodes failed op now from try entries known later (at.Transaction a) after next w asked = asked
+asked_by nodes failed op now from try entries known later (at.Child c) after next w asked = asked
+asked_by nodes failed op now from try entries known later (at.Scan s) after next w asked = asked
 
 -- What the operation wants
 
@@ -414,16 +474,16 @@ ToldUnless known w now try next =
     × PeeksAs w.failed w.job next)
 
 -- what it goes by it asked for, where it had to
-abbrev pub AskedUnless : ℕ → ℕ → Op → List Entry → List Entry → List Entry → Next → Type 0
-AskedUnless nodes failed op now before try Next.Catalog = ⊤
-AskedUnless nodes failed op now before try next =
-    HasAsked failed op before try × AreOverNodes nodes failed now
+abbrev pub AskedUnless : ℕ → ℕ → Op → List Entry → Origin → List Entry → Next → Type 0
+AskedUnless nodes failed op now from try Next.Catalog = ⊤
+AskedUnless nodes failed op now from try next =
+    HasAsked failed op from try × AreOverNodes nodes failed now
 
 pub record AdvanceTells (es : List Entry) (known : Known) (w before_try : Work)
-    (before try : List Entry) (next : Next) : Type 0 where
+    (from : Origin) (try : List Entry) (next : Next) : Type 0 where
   pub open_still : OpenUnless es known w try next
   pub told : ToldUnless known w (since_begin es) try next
-  pub asked : AskedUnless known.nodes before_try.failed before_try.op (since_begin es) before try next
+  pub asked : AskedUnless known.nodes before_try.failed before_try.op (since_begin es) from try next
 
 -- where it goes on by its job
 module _ (es : List Entry) (known : Known) (before begun after : Work) (next : Next)
@@ -432,27 +492,37 @@ module _ (es : List Entry) (known : Known) (before begun after : Work) (next : N
     (op : after.op ≡ before.op) (failed : after.failed ≡ before.failed)
     (shows : ScanShown (since_begin es) begun.spoiled before.op begun.job
     × ReadsShow before.failed (seen_in o.try) before.op entries begun.job)
-    (asked : JobAsked known.nodes before.failed before.op (since_begin es) o.trying.before o.try (Some entries) begun.job)
+    (asked : JobAsked known.nodes before.failed before.op (since_begin es) o.began.from o.try (Some entries) begun.job)
+    (place : StandsAt before.op o.began.from.taken begun.job)
     (is : IsJobIn known before.op begun.job) (spoiled : after.spoiled ≡ begun.spoiled)
     (wants : JobWants known (is_later before.failed) before.op begun.job after.job next)
     (last : JobIsLast es after.job) where
   tells : JobTells known.nodes before.failed (since_begin es) (seen_in o.try) begun.spoiled before.op entries after.job next
   tells = job_tells known.nodes before.failed (since_begin es) (seen_in o.try) begun.spoiled before.op entries known kept refl causes worns left next begun.job after.job is wants shows.1 shows.0
 
-  asked_for : HasAsked before.failed before.op o.trying.before o.try
+  asked_for : HasAsked before.failed before.op o.began.from o.try
       × AreOverNodes known.nodes before.failed (since_begin es)
   asked_for =
-      asked_by known.nodes before.failed before.op (since_begin es) o.trying.before o.try entries known (is_later before.failed) begun.job after.job next wants asked
+      asked_by known.nodes before.failed before.op (since_begin es) o.began.from o.try entries known (is_later before.failed) begun.job after.job next wants asked
 
-  asked_after : JobAsked known.nodes before.failed before.op (since_begin es) o.trying.before o.try known.catalog after.job
-  asked_after =
-      subst (λ (c : Option (List CatEntry)). JobAsked known.nodes before.failed before.op (since_begin es) o.trying.before o.try c after.job) (sym kept)
-      (asked_all known.nodes before.failed before.op (since_begin es) o.trying.before o.try entries after.job asked_for)
+  on : WantsOn before.op o.began.from.taken after.job next
+  on =
+      wants_on known (is_later before.failed) before.op o.began.from.taken begun.job after.job next wants place
 
-  open_after : ReadsShow before.failed (seen_in o.try) before.op entries after.job × ScanShown (since_begin es) begun.spoiled before.op after.job
+  asked_after : after.job ≢ at.Start
+      → JobAsked known.nodes before.failed before.op (since_begin es) o.began.from o.try known.catalog after.job
+  asked_after begun =
+      asked_any known.nodes before.failed before.op (since_begin es) o.began.from o.try known.catalog after.job begun
+      (λ none. some_kept (sym kept ∙ none)) asked_for
+    where
+      some_kept : Some entries ≡ None → ⊥
+      some_kept e = cc
+
+  open_after : StandsAt before.op o.began.from.taken after.job → after.job ≢ at.Start
+      → ReadsShow before.failed (seen_in o.try) before.op entries after.job × ScanShown (since_begin es) begun.spoiled before.op after.job
       → OpenAs es known after o.try
-  open_after shown =
-      open_as es known before after o op failed asked_after
+  open_after stands begun shown =
+      open_as es known before after o op failed stands (asked_after begun)
       (subst (λ (b : Bool). ScanShown (since_begin es) b before.op after.job) (sym spoiled) shown.1)
       (subst (λ (c : Option (List CatEntry)). MatchOption c (IsStartable before.op after.job) (λ x. ReadsShow before.failed (seen_in o.try) before.op x after.job)) (sym kept) shown.0) last
 
@@ -464,25 +534,32 @@ module _ (es : List Entry) (known : Known) (before begun after : Work) (next : N
     subst (λ (n : ℕ). PeeksAs n after.job next) (sym failed) tells.peeks,
   )
 
-  goes_tells : AdvanceTells es known after before o.trying.before o.try next
+  goes_tells : AdvanceTells es known after before o.began.from o.try next
   goes_tells = record {
-    open_still = by next tells.shown;
+    open_still = by next tells.shown on.stands on.begun;
     asked = by_asked next asked_for;
     told = by_next next (subst (λ (c : Option (List CatEntry)). MatchOption c ⊥ (λ x. NextTold known.nodes after.failed (since_begin es) (seen_in o.try) after.op x after.job next × PeeksAs after.failed after.job next)) (sym kept) told_after);
   }
     where
       by : (n : Next) → ShownStill before.failed (since_begin es) (seen_in o.try) begun.spoiled before.op entries after.job n
+          → StandsStill before.op o.began.from.taken after.job n
+          → ((answer : Answer) × (n ≡ Next.Answers answer)) ⊎ (after.job ≢ at.Start)
           → OpenUnless es known after o.try n
-      by (Next.Answers answer) shown = tt
-      by Next.Catalog shown = open_after shown
-      by (Next.Page addr peek) shown = open_after shown
-      by (Next.Count node peek) shown = open_after shown
-      by (Next.Plan mini reply) shown = open_after shown
-      by (Next.Fails cause) shown = open_after shown
+      by (Next.Answers answer) shown stands begun = tt
+      by Next.Catalog shown stands (inr begun) = open_after stands begun shown
+      by (Next.Page addr peek) shown stands (inr begun) = open_after stands begun shown
+      by (Next.Count node peek) shown stands (inr begun) = open_after stands begun shown
+      by (Next.Plan mini reply) shown stands (inr begun) = open_after stands begun shown
+      by (Next.Fails cause) shown stands (inr begun) = open_after stands begun shown
+      by Next.Catalog shown stands (inl answered) = absurd (no_answer Next.Catalog answered.0 tt answered.1)
+      by (Next.Page addr peek) shown stands (inl answered) = absurd (no_answer (Next.Page addr peek) answered.0 tt answered.1)
+      by (Next.Count node peek) shown stands (inl answered) = absurd (no_answer (Next.Count node peek) answered.0 tt answered.1)
+      by (Next.Plan mini reply) shown stands (inl answered) = absurd (no_answer (Next.Plan mini reply) answered.0 tt answered.1)
+      by (Next.Fails cause) shown stands (inl answered) = absurd (no_answer (Next.Fails cause) answered.0 tt answered.1)
 
       by_asked : (n : Next)
-          → HasAsked before.failed before.op o.trying.before o.try × AreOverNodes known.nodes before.failed (since_begin es)
-          → AskedUnless known.nodes before.failed before.op (since_begin es) o.trying.before o.try n
+          → HasAsked before.failed before.op o.began.from o.try × AreOverNodes known.nodes before.failed (since_begin es)
+          → AskedUnless known.nodes before.failed before.op (since_begin es) o.began.from o.try n
       by_asked Next.Catalog told = tt
       by_asked (Next.Answers answer) told = told
       by_asked (Next.Page addr peek) told = told
@@ -500,6 +577,37 @@ module _ (es : List Entry) (known : Known) (before begun after : Work) (next : N
       by_next (Next.Plan mini reply) told = told
       by_next (Next.Fails cause) told = told
 
+some_none : (entries : List CatEntry) → Some entries ≡ None → ⊥
+some_none entries e = cc
+
+-- a transaction that is to begin has read nothing: what its list shows it showed before
+shown_older : (es : List Entry) (known : Known) (w : Work) (entries : List CatEntry)
+    (o : IsOpen es known w) → w.job ≡ at.Start → known.catalog ≡ Some entries → w.failed ≡ 0
+    → (name : List ℕ) (steps : List Step) → w.op ≡ Tx name steps → ShowsCatalog es entries
+    → ShowsCatalog o.began.from.older entries
+shown_older es known w entries o start kept first name steps op (seen, has, sees) =
+    (seen, by (Contains-append_cases (seen_in (since_begin es)) (seen_in o.began.from.older) seen (subst (λ (l : List Seen). Contains l seen) (ap seen_in o.began.all ∙ seen_in-append (since_begin es) o.began.from.older) has)), sees)
+  where
+    sent : HasSentNone o.try
+    sent =
+        subst (λ (j : Job). JobAsked known.nodes w.failed w.op (since_begin es) o.began.from o.try (Some entries) j) start
+        (subst (λ (c : Option (List CatEntry)). JobAsked known.nodes w.failed w.op (since_begin es) o.began.from o.try c w.job) kept o.asked)
+
+    none_before : (n : ℕ) → n ≡ 0 → HaveFailed known.nodes w.op o.began.from n o.trying.before
+        → o.trying.before ≡ []
+    none_before zero is h = h.0 ∙ subst (λ (x : Op). IsWhole x o.began.from.taken) op h.1
+    none_before (suc n) is h = absurd cc
+
+    none_seen : seen_in (since_begin es) ≡ []
+    none_seen =
+        ap seen_in (o.trying.split ∙ ap (λ (l : List Entry). o.try ++ l) (none_before w.failed first o.trying.have_failed) ∙ append-nil o.try)
+        ∙ decided_seen o.try sent
+
+    by : Contains (seen_in (since_begin es)) seen ⊎ Contains (seen_in o.began.from.older) seen
+        → Contains (seen_in o.began.from.older) seen
+    by (inl now) = absurd (nothing seen (subst (λ (l : List Seen). Contains l seen) none_seen now))
+    by (inr older) = older
+
 -- a first try alone has not begun though a catalog is kept
 first_try : (known : Known) (failed : ℕ) (seens : List Seen) (op : Op) (entries : List CatEntry)
     → known.catalog ≡ Some entries → ReadsShowBy known failed seens op at.Start → failed ≡ 0
@@ -509,9 +617,10 @@ first_try known failed seens op entries kept reads =
 pub advance_tells : (es : List Entry) (old known : Known) (before after : Work) (next : Next)
     → (keeps : KeepsKnown old known) → IsJobOf old before → KeepsOp before after
     → WantsNext known before after next → (causes : TriesShowCauses) → WornPagesShow
-    → FreeSlotsAreLeft → JobIsLast es after.job → (o : IsOpen es known before)
-    → AdvanceTells es known after before o.trying.before o.try next
-advance_tells es old known before after next keeps is op wants causes worns left last o =
+    → FreeSlotsAreLeft → JobIsLast es after.job → MatchOption known.catalog ⊤ (IsKept es)
+    → (o : IsOpen es known before)
+    → AdvanceTells es known after before o.began.from o.try next
+advance_tells es old known before after next keeps is op wants causes worns left last shown_kept o =
     by (asks_or_goes old known before after next keeps is wants)
   where
     -- what its job has read is shown, also where that has just begun
@@ -539,42 +648,64 @@ advance_tells es old known before after next keeps is op wants causes worns left
               (subst (λ (n : ℕ). ReadsShowBy known n (seen_in o.try) on.begun.op on.begun.job) on.keeps.1 shows.1)),
         )
 
+    -- it stands where its operation does
+    starts_stand : (on : WentOn known before after next) (entries : List CatEntry) → known.catalog ≡ Some entries
+        → before.job ≡ at.Start → BeginsBy known before on.begun
+        → Began before.op o.began.from.taken on.begun.job
+    starts_stand on entries kept start begins =
+        goes_stands entries before at.Start on.begun.job o.began.from.taken tt
+        (subst (λ (j : Job). GoesOnFrom entries before j on.begun.job) start
+        (subst (λ (c : Option (List CatEntry)). MatchOption c ⊥ (λ es. GoesOnFrom es before before.job on.begun.job)) kept begins.starts.1))
+        (subst (StandsAt before.op o.began.from.taken) start o.began.place)
+
+    place_by : (on : WentOn known before after next) (entries : List CatEntry) → known.catalog ≡ Some entries
+        → StandsAt before.op o.began.from.taken on.begun.job
+    place_by on entries kept = from on.begins
+      where
+        from : (on.begun ≡ before) ⊎ ((before.job ≡ at.Start) × BeginsBy known before on.begun)
+            → StandsAt before.op o.began.from.taken on.begun.job
+        from (inl same) = subst (λ (w : Work). StandsAt before.op o.began.from.taken w.job) (sym same) o.began.place
+        from (inr (start, begins)) = (starts_stand on entries kept start begins).0
+
     -- and it asked for the catalog, where it had to
     asked_by_kept : (on : WentOn known before after next) (entries : List CatEntry)
         → known.catalog ≡ Some entries
-        → JobAsked known.nodes before.failed before.op (since_begin es) o.trying.before o.try (Some entries) on.begun.job
+        → JobAsked known.nodes before.failed before.op (since_begin es) o.began.from o.try (Some entries) on.begun.job
     asked_by_kept on entries kept = from on.begins
       where
         from : (on.begun ≡ before) ⊎ ((before.job ≡ at.Start) × BeginsBy known before on.begun)
-            → JobAsked known.nodes before.failed before.op (since_begin es) o.trying.before o.try (Some entries) on.begun.job
+            → JobAsked known.nodes before.failed before.op (since_begin es) o.began.from o.try (Some entries) on.begun.job
         from (inl same) =
-            subst (λ (w : Work). JobAsked known.nodes before.failed before.op (since_begin es) o.trying.before o.try (Some entries) w.job) (sym same)
-            (subst (λ (c : Option (List CatEntry)). JobAsked known.nodes before.failed before.op (since_begin es) o.trying.before o.try c before.job) kept o.asked)
+            subst (λ (w : Work). JobAsked known.nodes before.failed before.op (since_begin es) o.began.from o.try (Some entries) w.job) (sym same)
+            (subst (λ (c : Option (List CatEntry)). JobAsked known.nodes before.failed before.op (since_begin es) o.began.from o.try c before.job) kept o.asked)
         from (inr (start, begins)) =
             let zero_is = first_try known before.failed (seen_in o.try) before.op entries kept
             (subst (λ (j : Job). ReadsShowBy known before.failed (seen_in o.try) before.op j) start o.shows.1) in
             let tx = begins_steps known.catalog before.op begins.enough in
-            asked_all known.nodes before.failed before.op (since_begin es) o.trying.before o.try entries on.begun.job
-            (subst (λ (n : ℕ). HasAsked n before.op o.trying.before o.try × AreOverNodes known.nodes n (since_begin es)) (sym zero_is)
-            (subst (λ (x : Op). HasAsked 0 x o.trying.before o.try × AreOverNodes known.nodes 0 (since_begin es)) (sym tx.2) (tt, tt)))
+            let shown = (subst (λ (c : Option (List CatEntry)). MatchOption c ⊤ (IsKept es)) kept shown_kept).0 in
+            asked_any known.nodes before.failed before.op (since_begin es) o.began.from o.try (Some entries) on.begun.job
+            (starts_stand on entries kept start begins).1 (λ none. some_none entries none)
+            (subst (λ (n : ℕ). HasAsked n before.op o.began.from o.try × AreOverNodes known.nodes n (since_begin es)) (sym zero_is)
+            (subst (λ (x : Op). HasAsked 0 x o.began.from o.try × AreOverNodes known.nodes 0 (since_begin es)) (sym tx.2)
+            (inr (entries, shown_older es known before entries o start kept zero_is tx.0 tx.1 tx.2 shown), tt)))
 
     goes_by : (on : WentOn known before after next) (entries : List CatEntry) → known.catalog ≡ Some entries
-        → AdvanceTells es known after before o.trying.before o.try next
+        → AdvanceTells es known after before o.began.from o.try next
     goes_by on entries kept =
         goes_tells es known before on.begun after next entries kept causes worns left o op.0 op.1
-        (shows_by on entries kept) (asked_by_kept on entries kept)
+        (shows_by on entries kept) (asked_by_kept on entries kept) (place_by on entries kept)
         (subst (λ (x : Op). IsJobIn known x on.begun.job) on.keeps.0 on.right) on.goes.0
         (subst (λ (n : ℕ). JobWants known (is_later n) before.op on.begun.job after.job next) on.keeps.1
         (subst (λ (x : Op). JobWants known (is_later on.begun.failed) x on.begun.job after.job next) on.keeps.0 on.goes.1)) last
 
     by_catalog : (on : WentOn known before after next) (c : Option (List CatEntry)) → known.catalog ≡ c
-        → AdvanceTells es known after before o.trying.before o.try next
+        → AdvanceTells es known after before o.began.from o.try next
     by_catalog on None none = absurd (on.kept none)
     by_catalog on (Some entries) kept = goes_by on entries kept
 
-    by : AsksOrGoes known before after next → AdvanceTells es known after before o.trying.before o.try next
+    by : AsksOrGoes known before after next → AdvanceTells es known after before o.began.from o.try next
     by (inl asks) =
-        subst (λ (n : Next). AdvanceTells es known after before o.trying.before o.try n) (sym asks.0)
-        (subst (λ (w : Work). AdvanceTells es known w before o.trying.before o.try Next.Catalog) (sym asks.1)
+        subst (λ (n : Next). AdvanceTells es known after before o.began.from o.try n) (sym asks.0)
+        (subst (λ (w : Work). AdvanceTells es known w before o.began.from o.try Next.Catalog) (sym asks.1)
         (record { open_still = record { is = o; try_is = refl }; told = tt; asked = tt }))
     by (inr on) = by_catalog on known.catalog refl

@@ -1,7 +1,7 @@
 -- What the catalog that a try reads shows, by its client's own list.
 use Rattle.std.proofs.Common.{◌≢◌, ◌≡◌, inl, inr, ℕ, zero, suc, Bool, true, false, List, [], ◌∷◌, ◌++◌}
 use Rattle.std.proofs.Common.{Option, Some, None, refl, subst, sym, ap, ◌∙◌, arith, Contains, slice_get, if◌then◌else◌}
-use Rattle.std.specs.Prelude.{MatchOption, ⊤, take, nat_eq, ◌&&◌}
+use Rattle.std.specs.Prelude.{MatchOption, ⊤, take, nat_eq, ◌&&◌, unwrap_or}
 use Rattle.std.specs.List.{AllByRecursion, list_any}
 use Rattle.std.proofs.lemmas.List.{append_assoc}
 use Rattle.std.proofs.lemmas.List.Elements.{All-from_recursion, recursion_from_All}
@@ -29,7 +29,7 @@ use Rattle.mn_page.specs.Grammar.{IsEntry}
 use Rattle.mn_page.specs.Space.{catalog_size, catalog_start}
 use Rattle.mn_scan.specs.Scan.{ScanState, key_at, new_scan}
 use Rattle.mn_runs.specs.declared.entry.Entry.{Entry}
-use Rattle.mn_law.specs.Answers.{MayBeKept, MeetsFault, Reached, ReachesAddr, asks_catalog, asks_for_catalog}
+use Rattle.mn_law.specs.Answers.{IsKeyOf, MayBeKept, MeetsFault, Reached, ReachesAddr, asks_catalog, asks_for_catalog}
 use Rattle.mn_law.specs.Answers.Reached.{by_root}
 use Rattle.mn_runs.specs.Calls.{Call, call_in, calls_of}
 use Rattle.mn_law.specs.Places.{catalog_place}
@@ -49,10 +49,10 @@ use Rattle.mn_work.specs.Among.{AreBrought}
 use Rattle.mn_work.specs.Attempts as attempts
 use Rattle.mn_work.specs.Children as children
 use Rattle.mn_work.specs.Catalogs.{HasParentsBelow, SpellsVersions}
-use Rattle.mn_proxy.specs.Jobs.{AreCounted, HasScanned, IsBrought, IsOfTry, JobShows, ReadsShow, ScanShown}
-use Rattle.mn_proxy.specs.Tries.{HasAsked}
+use Rattle.mn_proxy.specs.Jobs.{AreCounted, HasScanned, IsBrought, IsOfTry, JobShows, ReadsShow, ScanShown, StandsAt}
+use Rattle.mn_proxy.specs.Tries.{HasAsked, Origin}
 use Rattle.mn_work.specs.Walks.{Admits, IfLater, WalkComesTo}
-use Rattle.mn_work.specs.Works.{BeginsBy, BeginsOn, GoesOnFrom, IsJobIn, IsJobOf, IsNewChild, IsScan, IsStartable, KeepsOp}
+use Rattle.mn_work.specs.Works.{BeginsBy, BeginsOn, BeginsSteps, GoesOnFrom, IsJobIn, IsJobOf, IsNewChild, IsScan, IsStartable, KeepsOp}
 use Rattle.mn_work.specs.Works.{StartsOn, TakesCatalog, catalog_addr, lone_key, retried, retried_job}
 use Rattle.mn_proxy.proofs.ScansShow.{scan_elsewhere}
 use Rattle.mn_work.proofs.Works.{admits_as, begins_steps, retry_starts}
@@ -326,6 +326,40 @@ module _ (bytes : List ℕ) (e : Entry) (is : seen_at e ≡ catalog_seen bytes �
 
 -- What came of it
 
+-- a job that has begun stands where its operation does
+abbrev pub Began : Op → List Entry → Job → Type 0
+Began op taken job = StandsAt op taken job × (job ≢ at.Start)
+
+begins_stands : (entries : List CatEntry) (op : Op) (spoiled : Bool) (version : VersionNo) (root : Addr)
+    (job : Job) (taken : List Entry) → taken ≡ [] → BeginsOn entries op spoiled version root job
+    → Began op taken job
+begins_stands entries (Tx name steps) spoiled version root job taken none begins = by (lone_key steps) begins
+  where
+    by : (o : Option (List ℕ))
+        → MatchOption o (BeginsSteps entries version root job) (λ key. job ≡ at.Get (record { version = version; addr = root; above = None }))
+        → Began (Tx name steps) taken job
+    by None b = subst (Began (Tx name steps) taken) (sym b.1) (none, λ e. absurd cc)
+    by (Some key) b = subst (Began (Tx name steps) taken) (sym b) (none, λ e. absurd cc)
+begins_stands entries (Snapshot name child) spoiled version root job taken none begins =
+    subst (Began (Snapshot name child) taken) (sym begins.1) (none, λ e. absurd cc)
+begins_stands entries (Branch name child) spoiled version root job taken none begins =
+    subst (Began (Branch name child) taken) (sym begins.1) (none, λ e. absurd cc)
+begins_stands entries (Scan name low high limit) spoiled version root job taken none begins =
+    subst (Began (Scan name low high limit) taken) (sym begins.1)
+    (λ goes. subst (λ (l : List Entry). IsKeyOf (Scan name low high limit) l (unwrap_or low [])) (sym none) refl, λ e. absurd cc)
+begins_stands entries Versions spoiled version root job taken none begins = absurd begins
+
+pub goes_stands : (entries : List CatEntry) (w : Work) (before job : Job) (taken : List Entry)
+    → IsStartable w.op before → GoesOnFrom entries w before job → StandsAt w.op taken before
+    → Began w.op taken job
+goes_stands entries w at.Start job taken starts on stands =
+    begins_stands entries w.op w.spoiled on.0 on.1 job taken stands on.3
+goes_stands entries w (at.Scan s) job taken starts on stands =
+    subst (Began w.op taken) (sym on.0) (stands, λ e. absurd cc)
+goes_stands entries w (at.Get d) job taken starts on stands = absurd starts
+goes_stands entries w (at.Transaction a) job taken starts on stands = absurd starts
+goes_stands entries w (at.Child c) job taken starts on stands = absurd starts
+
 of_some : (o : Option (List CatEntry)) (P : List CatEntry → Type 0) (entries : List CatEntry) → o ≡ Some entries
     → MatchOption o ⊥ P → P entries
 of_some o P entries is told = subst (λ (x : Option (List CatEntry)). MatchOption x ⊥ P) is told
@@ -346,6 +380,26 @@ module _ (bytes : List ℕ) (e : Entry) (is : seen_at e ≡ catalog_seen bytes �
             (subst (λ (o : Op). ReadsShow after.failed (seen_in (e ∷ tail)) o entries after.job) (sym op.0) both.1),
       )
 
+  -- and it has begun, by what is kept now
+  pub goes_on_stands : (taken : List Entry) → IsStartable before.op before.job
+      → TakesCatalog bytes before known after Taken.GoesOn → StandsAt before.op taken before.job
+      → Began before.op taken after.job × (known.catalog ≢ None)
+  goes_on_stands taken starts (inl bad) stands = let clash = bad.4 in absurd cc
+  goes_on_stands taken starts (inr (entries, spells, kept, (admitted, begins))) stands =
+      let on = of_some known.catalog (λ es. StartsOn es before after Started.On) entries kept begins.1 in
+      (goes_stands entries before before.job after.job taken starts on stands, λ none. some (sym kept ∙ none))
+    where
+      some : Some entries ≡ None → ⊥
+      some e = cc
+
+  -- where the try fails its job is what it was
+  pub fails_same : (cause : Option Busy) → TakesCatalog bytes before known after (Taken.Fails cause)
+      → after.job ≡ before.job
+  fails_same cause (inl bad) = bad.3
+  fails_same cause (inr (entries, spells, kept, (none, begins))) =
+      let moved = of_some known.catalog (λ es. StartsOn es before after Started.Moved) entries kept begins.1 in
+      ap (λ (w : Work). w.job) moved.1
+
   -- it shows the reply: a refusal, or the listing
   pub replies_shows : (reply : Reply) → TakesCatalog bytes before known after (Taken.Replies reply)
       → CatalogShows (catalog_seen bytes) before.op reply
@@ -364,11 +418,11 @@ module _ (bytes : List ℕ) (e : Entry) (is : seen_at e ≡ catalog_seen bytes �
       (entries, sees_catalog bytes entries spells, subst (λ (o : Op). CatalogReplies (heads_in entries) o reply) (sym on.0) on.1)
 
   -- it is none: a fault that the try has met
-  pub fails_shows : (nodes : ℕ) (op : Op) (cause : Busy)
+  pub fails_shows : (nodes : ℕ) (op : Op) (IsKey : List ℕ → Type 0) (cause : Busy)
       → TakesCatalog bytes before known after (Taken.Fails (Some cause))
-      → MeetsFault nodes (seen_in (e ∷ tail)) op cause
-  fails_shows nodes op cause (inl (none, gone, spoiled, job, fails)) =
-      subst (MeetsFault nodes (seen_in (e ∷ tail)) op) (sym (some_cause cause (Path catalog_addr 0) fails))
+      → MeetsFault nodes (seen_in (e ∷ tail)) op IsKey cause
+  fails_shows nodes op IsKey cause (inl (none, gone, spoiled, job, fails)) =
+      subst (MeetsFault nodes (seen_in (e ∷ tail)) op IsKey) (sym (some_cause cause (Path catalog_addr 0) fails))
       (inr (inr (
         catalog_seen bytes,
         is_brought bytes e is tail,
@@ -379,7 +433,7 @@ module _ (bytes : List ℕ) (e : Entry) (is : seen_at e ≡ catalog_seen bytes �
     where
       some_cause : (a b : Busy) → Taken.Fails (Some a) ≡ Taken.Fails (Some b) → a ≡ b
       some_cause a b f = cc
-  fails_shows nodes op cause (inr (entries, spells, kept, (none, begins))) = absurd cc
+  fails_shows nodes op IsKey cause (inr (entries, spells, kept, (none, begins))) = absurd cc
 
   -- what a scan has shown stays where the try fails
   pub fails_scan : (cause : Option Busy) → KeepsOp before after
@@ -462,18 +516,18 @@ asks_now e tail tid reply is =
     ap (λ (cs : List Call). list_any (λ c. nat_eq c.node.0 0 && asks_catalog c.request) (cs ++ calls_of tail)) is
 
 -- so its try may fail
-pub has_asked : (failed : ℕ) (op : Op) (before try : List Entry) → asks_for_catalog try ≡ true
-    → HasAsked failed op before try
-has_asked zero op before try asks = by op before
+pub has_asked : (failed : ℕ) (op : Op) (from : Origin) (try : List Entry) → asks_for_catalog try ≡ true
+    → HasAsked failed op from try
+has_asked zero op from try asks = by op from.taken
   where
-    by : (o : Op) (taken : List Entry) → MayBeKept o taken try
-    by (Tx name steps) taken = tt
+    by : (o : Op) (taken : List Entry) → MayBeKept from.older o taken try
+    by (Tx name steps) taken = inl asks
     by (Snapshot name child) taken = asks
     by (Branch name child) taken = asks
     by (Scan name low high limit) [] = asks
     by (Scan name low high limit) (d ∷ ds) = tt
     by Versions taken = asks
-has_asked (suc n) op before try asks = asks
+has_asked (suc n) op from try asks = asks
 
 -- A first try that begins on what is kept
 

@@ -29,7 +29,7 @@ use Rattle.mn_page.specs.Forest.{entry_head, heads_in}
 use Rattle.mn_page.specs.Grammar.{SpellsPage, entry_bytes, padded, page_bytes}
 use Rattle.mn_page.specs.Space.{count_size, count_start, entry_size, entry_start, slot_start}
 use Rattle.mn_path.specs.Walk.{front_of, is_on_path}
-use Rattle.mn_law.specs.Answers.{IsPageAtFault, MeetsFault, ReachesAddr, ShowsBytes, ShowsExpected, is_copying}
+use Rattle.mn_law.specs.Answers.{IsKeyOf, IsPageAtFault, MeetsFault, ReachesAddr, ShowsBytes, ShowsExpected, is_copying}
 use Rattle.mn_runs.specs.Clients.{is_plan}
 use Rattle.mn_plans.specs.Growth.{node_no}
 use Rattle.mn_law.specs.Needs.{NeedsSlots, ReadsTree, WritesOld}
@@ -58,6 +58,7 @@ use Rattle.mn_work.specs.Works.{AsksPageFor, ChildTakes, ChildWants, IsJobIn, Is
 use Rattle.mn_work.proofs.Attempts.{of_kept}
 use Rattle.mn_work.proofs.Compares.{items_plan, of_items, within_is}
 use Rattle.mn_proxy.proofs.Shown.{AnswerShown, TakenShown, WantShown, bad_count, begin_shown, counted_next, entry_shown, free_shown, front_shown, later_is, none_counted, not_later, root_reached, seen_count, whole_shown}
+use Rattle.mn_proxy.proofs.Tries.{fault_for}
 use Rattle.mn_work.proofs.Walks.{at_fault, bad_page, either, no_node, no_page}
 
 -- Room for a version
@@ -261,6 +262,14 @@ entry_worn seens name child entries c seen has sees admits node start worn = (
     first : catalog_node ≡ node
     first = zeroth node worn.node_is
 
+-- a Snapshot and a Branch look at the root by the least key
+least_key : (op : Op) → MakesChild op → IsKeyOf op [] []
+least_key (Snapshot name child) makes = refl
+least_key (Branch name child) makes = refl
+least_key (Tx name steps) makes = absurd makes
+least_key (Scan name low high limit) makes = absurd makes
+least_key Versions makes = absurd makes
+
 module _ (nodes : ℕ) (seens : List Seen) (op : Op) (entries : List CatEntry) where
   -- It begins
 
@@ -378,13 +387,14 @@ module _ (nodes : ℕ) (seens : List Seen) (op : Op) (entries : List CatEntry) w
         → Admits entries op d.version d.root
         → (is_later failed ≡ true → (nodes ≤ d.root.node.0) × (Some cause ≡ Some (Path d.root 0)))
         → ReadsShow failed seens op entries (at.Child d)
-        → IfLater failed (MeetsFault nodes seens op cause)
+        → IfLater failed (MeetsFault nodes seens op (IsKeyOf op []) cause)
     off_shown zero d cause makes admits off shows = tt
     off_shown (suc later) d cause makes admits off shows =
         let told = off (later_is later) in
-        subst (MeetsFault nodes seens op) (is_cause cause (Path d.root 0) told.1)
+        subst (MeetsFault nodes seens op (IsKeyOf op [])) (is_cause cause (Path d.root 0) told.1)
+        (fault_for nodes seens op [] (IsKeyOf op []) (Path d.root 0) (least_key op makes)
         (no_node nodes seens op entries [] d.root None
-        (root_is_reached nodes seens op entries d shows.0.0 shows.0.1 shows.0.2 makes admits) told.0)
+        (root_is_reached nodes seens op entries d shows.0.0 shows.0.1 shows.0.2 makes admits) told.0))
       where
         is_cause : (x y : Busy) → Some x ≡ Some y → y ≡ x
         is_cause x y e = cc
@@ -506,12 +516,13 @@ module _ (nodes : ℕ) (seens : List Seen) (op : Op) (entries : List CatEntry) w
         → may_copy entries c.version.0 page ≡ false
         → IfLater failed (Contains seens (seen_page c.root bytes))
         → ReadsShow failed seens op entries (at.Child c)
-        → IfLater failed (MeetsFault nodes seens op (Path c.root page.seq))
+        → IfLater failed (MeetsFault nodes seens op (IsKeyOf op []) (Path c.root page.seq))
     bad_root zero c bytes page makes admits spells off has shows = tt
     bad_root (suc later) c bytes page makes admits spells off has shows =
-        bad_page nodes seens op entries [] c.root None
+        fault_for nodes seens op [] (IsKeyOf op []) (Path c.root page.seq) (least_key op makes)
+        (bad_page nodes seens op entries [] c.root None
         (root_is_reached nodes seens op entries c shows.0.0 shows.0.1 shows.0.2 makes admits) bytes page has spells
-        (by (either (is_on_path (parents_of (heads_in entries)) c.version.0 [] None (front_of page)) (not (has_version page.copied (length entries))) off))
+        (by (either (is_on_path (parents_of (heads_in entries)) c.version.0 [] None (front_of page)) (not (has_version page.copied (length entries))) off)))
       where
         copying : (o : Op) → MakesChild o → is_copying o ≡ true
         copying (Snapshot name child) m = refl
@@ -535,11 +546,12 @@ module _ (nodes : ℕ) (seens : List Seen) (op : Op) (entries : List CatEntry) w
         → Admits entries op c.version c.root → SpellsNone bytes
         → IfLater failed (Contains seens (seen_page c.root bytes))
         → ReadsShow failed seens op entries (at.Child c)
-        → IfLater failed (MeetsFault nodes seens op (Path c.root 0))
+        → IfLater failed (MeetsFault nodes seens op (IsKeyOf op []) (Path c.root 0))
     none_root zero c bytes makes admits none has shows = tt
     none_root (suc later) c bytes makes admits none has shows =
-        no_page nodes seens op entries [] c.root None
-        (root_is_reached nodes seens op entries c shows.0.0 shows.0.1 shows.0.2 makes admits) bytes has none
+        fault_for nodes seens op [] (IsKeyOf op []) (Path c.root 0) (least_key op makes)
+        (no_page nodes seens op entries [] c.root None
+        (root_is_reached nodes seens op entries c shows.0.0 shows.0.1 shows.0.2 makes admits) bytes has none)
 
     -- or it came in
     root_reads : (failed : ℕ) (bytes : List ℕ) (page : Page) (c d : Child) → KeepsTry c d
@@ -578,7 +590,7 @@ module _ (nodes : ℕ) (seens : List Seen) (op : Op) (entries : List CatEntry) w
             root_reads failed bytes page c d t.keeps is.1 spells has shows
         page_taken (Taken.Fails None) page spells is = absurd is
         page_taken (Taken.Fails (Some cause)) page spells is =
-            subst (λ (b : Busy). IfLater failed (MeetsFault nodes seens op b)) (sym is.1)
+            subst (λ (b : Busy). IfLater failed (MeetsFault nodes seens op (IsKeyOf op []) b)) (sym is.1)
             (bad_root failed c bytes page way.makes way.admits spells is.0 has shows)
         page_taken Taken.Leaf page spells is = absurd is
         page_taken (Taken.Replies reply) page spells is = absurd is
@@ -608,11 +620,11 @@ module _ (nodes : ℕ) (seens : List Seen) (op : Op) (entries : List CatEntry) w
       is_cause x y e = cc
 
       fails : (n : ℕ) → IfLater n (Contains seens (seen_count c.counts.items bytes))
-          → IfLater n (MeetsFault nodes seens op cause)
+          → IfLater n (MeetsFault nodes seens op (IsKeyOf op []) cause)
       fails zero told = tt
       fails (suc n) told =
-          subst (MeetsFault nodes seens op) (is_cause cause _ counts.1)
-          (bad_count nodes seens op c.counts.items bytes told counts.0)
+          subst (MeetsFault nodes seens op (IsKeyOf op [])) (is_cause cause _ counts.1)
+          (bad_count nodes seens op (IsKeyOf op []) c.counts.items bytes told counts.0)
   counts_shown failed bytes c d (Taken.Fails None) counts same has shows = tt
   counts_shown failed bytes c d Taken.Leaf counts same has shows = absurd counts
   counts_shown failed bytes c d (Taken.Replies reply) counts same has shows = absurd counts

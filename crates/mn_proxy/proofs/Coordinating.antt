@@ -61,7 +61,7 @@ use Rattle.mn_proxy.proofs.Feeding.{failed_on, id_issued, later_told, mini_on, m
 use Rattle.mn_proxy.proofs.Issues.{IsLater, abandoned_later, called_later, closed_are_given_up, closed_are_settled, closed_plan, closed_read, closed_with, ended_given_up, ended_settled, fresh_abandoned, last_tid, own_calls_none, own_recovers_none, own_tries_none}
 use Rattle.mn_proxy.proofs.Last.{own_gives_none}
 use Rattle.mn_proxy.proofs.Opens.{own_on, under_way_still}
-use Rattle.mn_proxy.proofs.Retrying.{shown_again}
+use Rattle.mn_proxy.proofs.Retrying.{began_again, shown_again}
 
 -- Stages
 
@@ -367,7 +367,8 @@ module _ (es : List Entry) (p : ProxyState) (w : Work) (tid : Tid) (c : Coordina
         (closed_plan (since_begin es) (issue_under tid c)
         (subst (λ (t : Tid). is_over (since_begin es) (issue_under t c) ≡ true) m.id ((failed_is_given_up es c node reply m.coordinates step is failed.0).2 refusal)) given_up settled);
     over = over_nodes es p w tid c purpose own m;
-    failed_by = λ busy told. inl (failed.1 refusal busy
+    began = began_again es w.op w.job failed.1.0;
+    failed_by = λ busy told. inl (failed.1.1 refusal busy
         (subst (λ (t : Tid). IfLater w.failed (refusal_of t c.mini (participant c c.done) reply ≡ Some busy)) (sym m.id)
         (subst (λ (n : NodeNo). IfLater w.failed (refusal_of tid c.mini n reply ≡ Some busy)) (sym (failed_at c node step).1) told)));
     scan = scan_again p.known (since_begin es) w purpose m.before c.mini waits m.made failed.2;

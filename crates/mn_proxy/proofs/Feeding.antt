@@ -1,6 +1,6 @@
 -- What is on its way goes on by a reply, as the client's own list shows it: a Peek, and a
 -- minitransaction.
-use Rattle.std.proofs.Common.{◌≡◌, ◌⊎◌, inl, inr, ℕ, zero, suc, ◌+◌, ◌<◌, ◌≤◌, Bool, true, false, not, ◌&&◌, ◌||◌, List, [], ◌∷◌, ◌++◌, length, Option, Some, None, refl, sym, ap, subst, ◌∙◌, arith, Contains, slice_get}
+use Rattle.std.proofs.Common.{◌≡◌, ◌≢◌, ◌⊎◌, inl, inr, ℕ, zero, suc, ◌+◌, ◌<◌, ◌≤◌, Bool, true, false, not, ◌&&◌, ◌||◌, List, [], ◌∷◌, ◌++◌, length, Option, Some, None, refl, sym, ap, subst, ◌∙◌, arith, Contains, slice_get}
 use Rattle.std.specs.Prelude.{MatchOption, cond, filter, if◌then◌else◌, nat_eq, nat_lt, slice_index_or, slice_set}
 use Rattle.std.specs.Option.{option_map, option_to_list}
 use Rattle.std.specs.List.{AllByRecursion, flat_map, list_all, list_any}
@@ -30,14 +30,15 @@ use Rattle.mn_mini.specs.Sound.{AreReadsOf, Fits}
 use Rattle.mn_mini.proofs.Parts.{same_self, same_true}
 use Rattle.mn_mini.specs.Mini.{is_read}
 use Rattle.mn_page.specs.declared.entry.CatEntry.{CatEntry}
+use Rattle.mn_page.specs.Space.{catalog_size, catalog_start}
 use Rattle.mn_runs.specs.declared.entry.Entry.{Entry}
-use Rattle.mn_law.specs.Answers.{DiffersAs, LastIssue, RefusedAs, ShowsExpected, asks_catalog}
-use Rattle.mn_law.specs.Answers.{asks_for_catalog, is_any_decide, is_down_cause, is_peek, is_refusal}
+use Rattle.mn_law.specs.Answers.{DiffersAs, LastIssue, RefusedAs, ShowsExpected, asks_at_first, asks_catalog}
+use Rattle.mn_law.specs.Answers.{is_any_decide, is_catalog_call, is_down_cause, is_peek, is_refusal}
 use Rattle.mn_law.specs.Answers.{nodes_of, part_compares}
 use Rattle.mn_runs.specs.Calls.{Call, Issued, call_in, calls_of, is_done, issue_in, issues_of, since_begin}
 use Rattle.mn_runs.specs.Clients.{is_plan}
 use Rattle.mn_runs.specs.Seen.{Place, Seen, seen_at, seen_by, seen_in}
-use Rattle.mn_law.specs.Places.{catalog_place}
+use Rattle.mn_law.specs.Places.{catalog_place, page_place}
 use Rattle.mn_law.specs.Shown.{items_shown, shown_by}
 use Rattle.mn_runs.proofs.Alone.{read_alone}
 use Rattle.mn_coord.specs.Coordination.{Coordination, after_reply, fed, fed_at, is_stopped_at_last, participant, stage_in, stage_of, step_at, step_of, try_request}
@@ -64,16 +65,17 @@ use Rattle.mn_proxy.specs.Jobs.{ScanShown}
 use Rattle.mn_work.specs.Refusals.{compares_at, refusal_of}
 use Rattle.mn_work.specs.Places.{place_of}
 use Rattle.mn_proxy.specs.State.{IsOutIn, ProxyState}
-use Rattle.mn_proxy.specs.Tries.{HasAsked, WasRefused}
+use Rattle.mn_proxy.specs.Tries.{HasAsked, HasSentNone, Origin, WasRefused}
 use Rattle.mn_proxy.specs.Turns.{IsFed, IsSoundErrand, IsSoundUnderWay, IsSoundWork, OwesNoDecide, OwesNone}
 use Rattle.mn_proxy.specs.Turns.{OwesNoneIn, WaitsFor, with_work}
-use Rattle.mn_work.specs.Works.{AsksCountFor, AsksPageFor, IsStartable}
+use Rattle.mn_work.specs.Works.{AsksCountFor, AsksPageFor, IsStartable, IsToAsk}
 use Rattle.mn_work.specs.Walks.{IfLater}
+use Rattle.mn_proxy.proofs.CatalogsShow.{has_asked}
 use Rattle.mn_proxy.proofs.Issues.{GoesOn, IsLater, TriesNone, called_later, closed_later, closed_since, earlier_differ, fresh_peeked, fresh_step, last_stays, last_tid, no_issue, peek_recovers_none, peek_tries_none, since_on, step_recovers_none, step_tries_none}
 use Rattle.mn_proxy.proofs.Issuing.{own_with}
 use Rattle.mn_proxy.proofs.Last.{kept_still_last, shown_at}
-use Rattle.mn_proxy.proofs.Opens.{IsQuiet, asked_on, open_on, own_on, scan_shown_quiet, under_way_still}
-use Rattle.mn_proxy.proofs.Tries.{NoPeek, decided_on, refused_on}
+use Rattle.mn_proxy.proofs.Opens.{IsQuiet, SendsNone, asked_on, began_on, open_on, own_on, scan_shown_quiet, under_way_still}
+use Rattle.mn_proxy.proofs.Tries.{NoPeek, decided_on, first_on, refused_on, spares_on}
 use Rattle.mn_work.proofs.Works.{startable}
 
 -- Later tries
@@ -458,39 +460,51 @@ only_reads (first ∷ (second ∷ rest)) reads e = absurd (omega arith)
 
 -- A request for the catalog
 
-asks_is : (failed : ℕ) (op : Op) (before try : List Entry) → asks_for_catalog try ≡ true
-    → HasAsked failed op before try
-asks_is zero (Tx name steps) before try asked = tt
-asks_is zero (Snapshot name child) before try asked = asked
-asks_is zero (Branch name child) before try asked = asked
-asks_is zero (Scan name low high limit) [] try asked = asked
-asks_is zero (Scan name low high limit) (x ∷ xs) try asked = tt
-asks_is zero Versions before try asked = asked
-asks_is (suc n) op before try asked = asked
-
 -- it goes to node 0
 abbrev pub asks_there : NodeNo → Request → Bool
 asks_there n request = nat_eq n.0 0 && asks_catalog request
 
-asked_by : (nodes failed : ℕ) (op : Op) (now before try : List Entry) (e : Entry) (n : NodeNo)
-    (request : Request) (reply : NodeReply) (catalog : Option (List CatEntry)) (job : Job)
-    → IsAnswered e n request reply
-    → ((job ≡ at.Start) ⊎ (catalog ≡ None) → asks_there n request ≡ true)
-    → JobAsked nodes failed op now before try catalog job → HasAsked failed op before (e ∷ try)
-asked_by nodes failed op now before try e n request reply None job a start asked =
-    asks_is failed op before (e ∷ try)
-    (call_any (λ (c : Call). asks_there c.node c.request) e try n request reply a (start (inr refl)))
-asked_by nodes failed op now before try e n request reply (Some entries) at.Start a start asked =
-    asks_is failed op before (e ∷ try)
-    (call_any (λ (c : Call). asks_there c.node c.request) e try n request reply a (start (inl refl)))
-asked_by nodes failed op now before try e n request reply (Some entries) (at.Get d) a start asked =
-    asked_on failed op before try e asked.0
-asked_by nodes failed op now before try e n request reply (Some entries) (at.Transaction t) a start asked =
-    asked_on failed op before try e asked.0
-asked_by nodes failed op now before try e n request reply (Some entries) (at.Child t) a start asked =
-    asked_on failed op before try e asked.0
-asked_by nodes failed op now before try e n request reply (Some entries) (at.Scan s) a start asked =
-    asked_on failed op before try e asked.0
+-- a job that has begun, by a kept catalog, is not to ask for one
+begun_not : (entries : List CatEntry) (job : Job) → job ≢ at.Start → IsToAsk (Some entries) job → ⊥
+begun_not entries job begun (inl start) = begun start
+begun_not entries job begun (inr none) = absurd cc
+
+-- with the call its try has asked for the catalog, where it had to, and with no other than its first
+abbrev pub AsksAtFirst : ℕ → Op → Origin → List Entry → Type 0
+AsksAtFirst failed op from try =
+    HasAsked failed op from try × (asks_at_first (calls_of try) ≡ true)
+
+asked_by : (nodes failed : ℕ) (op : Op) (now : List Entry) (from : Origin) (try : List Entry)
+    (e : Entry) (n : NodeNo) (request : Request) (reply : NodeReply)
+    (catalog : Option (List CatEntry)) (job : Job) → IsAnswered e n request reply
+    → (IsToAsk catalog job → asks_there n request ≡ true)
+    → ((IsToAsk catalog job → ⊥) → asks_there n request ≡ false)
+    → asks_at_first (calls_of try) ≡ true
+    → JobAsked nodes failed op now from try catalog job → AsksAtFirst failed op from (e ∷ try)
+asked_by nodes failed op now from try e n request reply catalog job a start spare first asked =
+    by catalog job start spare asked
+  where
+    asks : asks_there n request ≡ true → HasSentNone try → AsksAtFirst failed op from (e ∷ try)
+    asks is sent = (
+      has_asked failed op from (e ∷ try) (call_any (λ (c : Call). asks_there c.node c.request) e try n request reply a is),
+      first_on e try (record { node = n; request = request; reply = reply }) a sent,
+    )
+
+    spares : asks_there n request ≡ false → HasAsked failed op from try → AsksAtFirst failed op from (e ∷ try)
+    spares is asked = (
+      asked_on failed op from try e asked,
+      spares_on e try (call_all (λ (c : Call). not (asks_there c.node c.request)) e n request reply a (ap not is)) first,
+    )
+
+    by : (o : Option (List CatEntry)) (j : Job) → (IsToAsk o j → asks_there n request ≡ true)
+        → ((IsToAsk o j → ⊥) → asks_there n request ≡ false) → JobAsked nodes failed op now from try o j
+        → AsksAtFirst failed op from (e ∷ try)
+    by None j start spare asked = asks (start (inr refl)) asked
+    by (Some entries) at.Start start spare asked = asks (start (inl refl)) asked
+    by (Some entries) (at.Get d) start spare asked = spares (spare (begun_not entries (at.Get d) (λ e. absurd cc))) asked.0
+    by (Some entries) (at.Transaction t) start spare asked = spares (spare (begun_not entries (at.Transaction t) (λ e. absurd cc))) asked.0
+    by (Some entries) (at.Child t) start spare asked = spares (spare (begun_not entries (at.Child t) (λ e. absurd cc))) asked.0
+    by (Some entries) (at.Scan s) start spare asked = spares (spare (begun_not entries (at.Scan s) (λ e. absurd cc))) asked.0
 
 catalog_there : (n : NodeNo) (tid : Tid) (place : Place) (request : Request) → place ≡ catalog_place
     → n ≡ place.node → request ≡ Ask.Exec tid (Bare.Read place.start place.length ∷ [])
@@ -500,17 +514,64 @@ catalog_there n tid place request is at asks =
     ∙ (ap (λ (r : Request). asks_there place.node r) asks
     ∙ ap (λ (p : Place). asks_there p.node (Ask.Exec tid (Bare.Read p.start p.length ∷ []))) is)
 
+-- a page, a count and a plan are no catalog
+abbrev pub IsApart : Place → Type 0
+IsApart place = (nat_eq place.start catalog_start && nat_eq place.length catalog_size) ≡ false
+
+pub and_false : (b : Bool) → (b && false) ≡ false
+and_false true = refl
+and_false false = refl
+
+pub page_is_apart : (place : Place) (addr : Addr) → place ≡ page_place addr → IsApart place
+page_is_apart place addr is =
+    ap (λ (p : Place). nat_eq p.start catalog_start && nat_eq p.length catalog_size) is
+    ∙ and_false (nat_eq (page_place addr).start catalog_start)
+
+pub count_is_apart : (job : Job) (place : Place) → IsPlaceFor job by.Count place → IsApart place
+count_is_apart at.Start place is = absurd is
+count_is_apart (at.Get d) place is = absurd is
+count_is_apart (at.Transaction a) place is =
+    ap (λ (p : Place). nat_eq p.start catalog_start && nat_eq p.length catalog_size) is
+count_is_apart (at.Child c) place is =
+    ap (λ (p : Place). nat_eq p.start catalog_start && nat_eq p.length catalog_size) is
+count_is_apart (at.Scan s) place is = absurd is
+
+unread_asks_none : (tid : Tid) (part : List PartItem) → reads_none part ≡ true
+    → asks_catalog (Ask.Exec tid part) ≡ false
+unfolding reads_none is_no_read
+unread_asks_none tid [] none = refl
+unread_asks_none tid (Bare.Compare s b ∷ part) none = refl
+unread_asks_none tid (Bare.Read s k ∷ part) none = absurd cc
+unread_asks_none tid (Bare.Write s b ∷ part) none = refl
+
+plan_spared : (tid : Tid) (mini : Mini) (n : NodeNo) → is_plan mini.items ≡ true
+    → asks_there n (try_request tid mini n) ≡ false
+plan_spared tid mini n plan = by (nat_eq (length (participants_of mini)) 1)
+  where
+    by : (b : Bool)
+        → asks_there n (if b then Ask.Exec tid (part_of mini n) else Ask.Prepare tid (participants_of mini) (part_of mini n)) ≡ false
+    by true =
+        ap (λ (b : Bool). nat_eq n.0 0 && b) (unread_asks_none tid (part_of mini n) (plan_part_unread mini n plan)) ∙ and_false (nat_eq n.0 0)
+    by false = and_false (nat_eq n.0 0)
+
+pub place_spared : (n : NodeNo) (tid : Tid) (place : Place) (request : Request) → IsApart place
+    → request ≡ Ask.Exec tid (Bare.Read place.start place.length ∷ []) → asks_there n request ≡ false
+place_spared n tid place request apart asks =
+    ap (λ (r : Request). asks_there n r) asks ∙ (ap (λ b. nat_eq n.0 0 && b) apart ∙ and_false (nat_eq n.0 0))
+
 -- A participant that was asked
 
 -- the try goes on that asked it; a plan's compares are shown; and a try that hasn't begun, or has no
--- catalog, asks for the catalog
+-- catalog, asks for the catalog, and no other does
 pub record IsAskedBy (es : List Entry) (known : Known) (w : Work) (c : Coordination) : Type 0 where
   pub going : IsOpen es known w
   pub shown : IfLater w.failed ((item : ℕ) (at : ℕ × List ℕ)
       → slice_get (compares_at (participant c c.done) c.mini.items) item ≡ Some at
       → ShowsExpected (seen_in going.try) (participant c c.done) at.0 at.1)
-  pub begins : (w.job ≡ at.Start) ⊎ (known.catalog ≡ None)
+  pub begins : IsToAsk known.catalog w.job
       → asks_there (participant c c.done) (try_request c.tid c.mini (participant c c.done)) ≡ true
+  pub spares : (IsToAsk known.catalog w.job → ⊥)
+      → asks_there (participant c c.done) (try_request c.tid c.mini (participant c c.done)) ≡ false
 
 read_compares_none : (n : NodeNo) (items : List Item) (place : Place) (item : ℕ) (at : ℕ × List ℕ)
     → items ≡ Read place.node place.start place.length ∷ []
@@ -523,18 +584,19 @@ read_compares_none n items place item at is e =
 read_asked : (es : List Entry) (known : Known) (w : Work) (purpose : Purpose) (c : Coordination)
     (place : Place) → ReadGoesOn es known w purpose c.done c.reads → ReadsPlace c.mini place
     → c.done < length (participants_of c.mini)
-    → ((w.job ≡ at.Start) ⊎ (known.catalog ≡ None) → place ≡ catalog_place)
-    → IsAskedBy es known w c
-read_asked es known w purpose c place goes is next begins =
+    → (IsToAsk known.catalog w.job → place ≡ catalog_place)
+    → ((IsToAsk known.catalog w.job → ⊥) → IsApart place) → IsAskedBy es known w c
+read_asked es known w purpose c place goes is next begins spares =
     let asks = asks_read c place is next in
     record {
       going = subst (λ (done : ℕ). ReadGoesOn es known w purpose done c.reads) asks.none goes;
       shown = later_told w.failed _ (λ item at e. absurd (read_compares_none (participant c c.done) c.mini.items place item at is e));
       begins = λ start. catalog_there (participant c c.done) c.tid place (try_request c.tid c.mini (participant c c.done)) (begins start) asks.node asks.request;
+      spares = λ begun. place_spared (participant c c.done) c.tid place (try_request c.tid c.mini (participant c c.done)) (spares begun) asks.request;
     }
 
 page_begun : (known : Known) (w : Work) (addr : Addr) → WaitsFor known w (by.Page addr)
-    → (w.job ≡ at.Start) ⊎ (known.catalog ≡ None) → ⊥
+    → IsToAsk known.catalog w.job → ⊥
 page_begun known w addr waits (inl start) =
     unasked w.op (subst (λ (j : Job). AsksPageFor known w.op j addr) start (waits.1).0)
   where
@@ -557,7 +619,7 @@ page_begun known w addr waits (inr none) =
     by op job starts asks = absurd starts
 
 count_begun : (known : Known) (w : Work) → WaitsFor known w by.Count
-    → (w.job ≡ at.Start) ⊎ (known.catalog ≡ None) → ⊥
+    → IsToAsk known.catalog w.job → ⊥
 count_begun known w waits (inl start) =
     unasked w.op (subst (λ (j : Job). AsksCountFor w.op j) start waits.1.0)
   where
@@ -580,7 +642,7 @@ count_begun known w waits (inr none) =
     by op job starts asks = absurd starts
 
 plan_begun : (known : Known) (w : Work) (reply : Reply) → HasBegun w.job
-    → WaitsFor known w (by.Plan reply) → (w.job ≡ at.Start) ⊎ (known.catalog ≡ None) → ⊥
+    → WaitsFor known w (by.Plan reply) → IsToAsk known.catalog w.job → ⊥
 plan_begun known w reply begun waits (inl start) = subst HasBegun start begun
 plan_begun known w reply begun waits (inr none) = waits.1 none
 
@@ -588,17 +650,20 @@ pub asked_by_purpose : (es before : List Entry) (known : Known) (w : Work) (purp
     (c : Coordination) → MiniGoesOn es known w c purpose → IsMadeFor before w.op w.job purpose c.mini
     → WaitsFor known w purpose → c.done < length (participants_of c.mini) → IsAskedBy es known w c
 asked_by_purpose es before known w by.Catalog c goes (place, at, is) waits next =
-    read_asked es known w by.Catalog c place goes is next (λ start. at)
+    read_asked es known w by.Catalog c place goes is next (λ start. at) (λ begun. absurd (begun waits.1.1))
 asked_by_purpose es before known w (by.Page addr) c goes (place, at, is) waits next =
     read_asked es known w (by.Page addr) c place goes is next (λ start. absurd (page_begun known w addr waits start))
+    (λ begun. page_is_apart place addr at)
 asked_by_purpose es before known w by.Count c goes (place, at, is) waits next =
     read_asked es known w by.Count c place goes is next (λ start. absurd (count_begun known w waits start))
+    (λ begun. count_is_apart w.job place at)
 asked_by_purpose es before known w (by.Plan reply) c (going, shown) (plan, made, begun) waits next =
     record {
       going = going;
       shown = later_by w.failed _ _ (λ (all : AreComparesShown (seen_in going.try) c.mini) item at e.
           all (participant c c.done) at.0 at.1 (compare_there (participant c c.done) c.mini.items item at e)) shown;
       begins = λ start. absurd (plan_begun known w reply begun waits start);
+      spares = λ has_begun. plan_spared c.tid c.mini (participant c c.done) plan;
     }
 
 -- A participant that refused
@@ -630,15 +695,16 @@ was_refused_now : (es : List Entry) (e : Entry) (known : Known) (w : Work) (c : 
     (reply : NodeReply) (busy : Busy) (asked : IsAskedBy es known w c) → TryAnswered e c reply
     → Fits (try_request c.tid c.mini (participant c c.done)) reply → is_refusal reply ≡ true
     → IfLater w.failed (refusal_of c.tid c.mini (participant c c.done) reply ≡ Some busy)
-    → WasRefused known.nodes w.op w.failed (since_begin (e ∷ es)) busy
+    → WasRefused known.nodes w.op asked.going.began.from w.failed (since_begin (e ∷ es)) busy
 was_refused_now es e known w c reply busy asked a fits is told =
     let n = participant c c.done in
     let request = try_request c.tid c.mini n in
     let o = asked.going in
-    subst (λ (l : List Entry). WasRefused known.nodes w.op w.failed l busy) (sym (since_on e es (called_later e n request reply a).goes))
-    (refused_on known.nodes w.op w.failed (since_begin es) o.try e (record { node = n; request = request; reply = reply }) busy o.trying o.leafless a is
+    let first = asked_by known.nodes w.failed w.op (since_begin es) o.began.from o.try e n request reply known.catalog w.job a asked.begins asked.spares o.trying.asks_first o.asked in
+    subst (λ (l : List Entry). WasRefused known.nodes w.op o.began.from w.failed l busy) (sym (since_on e es (called_later e n request reply a).goes))
+    (refused_on known.nodes w.op o.began.from w.failed (since_begin es) o.try e (record { node = n; request = request; reply = reply }) busy o.trying o.leafless a is
     (not_peeked w.failed e n request reply a (try_no_peek c.tid c.mini n))
-    (asked_by known.nodes w.failed w.op (since_begin es) o.trying.before o.try e n request reply known.catalog w.job a asked.begins o.asked)
+    first.1 first.0
     (later_both w.failed _ _ (RefusedAs (seen_in o.try) n request reply busy)
     (λ shown cause. refused_as (seen_in o.try) c.tid c.mini n busy shown (nat_eq (length (participants_of c.mini)) 1) reply fits is cause) asked.shown told))
 
@@ -649,7 +715,10 @@ pub failed_now : (es : List Entry) (e : Entry) (known : Known) (w : Work) (c : C
     → MiniFailed (e ∷ es) known w c reply
 failed_now es e known w c reply asked a fits undone = (
   fits,
-  λ is busy told. was_refused_now es e known w c reply busy asked a fits is told,
+  (
+    began_on e es w.op w.job (called_later e (participant c c.done) (try_request c.tid c.mini (participant c c.done)) reply a).goes asked.going.began,
+    λ is busy told. was_refused_now es e known w c reply busy asked a fits is told,
+  ),
   scan_since e es w (called_later e (participant c c.done) (try_request c.tid c.mini (participant c c.done)) reply a).goes
       (call_seen e (participant c c.done) (try_request c.tid c.mini (participant c c.done)) reply a (undone_unseen (participant c c.done) (try_request c.tid c.mini (participant c c.done)) reply undone))
       asked.going.shows.0,
@@ -664,7 +733,7 @@ failed_now es e known w c reply asked a fits undone = (
 pub unasked_now : (es : List Entry) (known : Known) (w : Work) (c : Coordination)
     → IsAskedBy es known w c → MiniFailed es known w c Say.NoMemory
 unasked_now es known w c asked =
-    (tt, λ is. absurd cc, asked.going.shows.0, refl, asked.going.last.0)
+    (tt, (asked.going.began, λ is. absurd cc), asked.going.shows.0, refl, asked.going.last.0)
 
 -- A participant that was done
 
@@ -674,10 +743,10 @@ PlanGoesOn es known w mini =
     (o : IsOpen es known w) × IfLater w.failed (AreComparesShown (seen_in o.try) mini)
 
 plan_on : (es : List Entry) (e : Entry) (known : Known) (w : Work) (mini : Mini)
-    → IsQuiet w.failed e → issue_in e.what ≡ [] → PlanGoesOn es known w mini
-    → PlanGoesOn (e ∷ es) known w mini
-plan_on es e known w mini quiet none (o, shown) =
-    let on = open_on es known w e o quiet (over_on e (since_begin es) known.nodes w.failed none) in
+    → IsQuiet w.failed e → SendsNone known.catalog w.job e → issue_in e.what ≡ []
+    → PlanGoesOn es known w mini → PlanGoesOn (e ∷ es) known w mini
+plan_on es e known w mini quiet sends none (o, shown) =
+    let on = open_on es known w e o quiet sends (over_on e (since_begin es) known.nodes w.failed none) in
     (on.is, subst (λ (seens : List Seen). IfLater w.failed (AreComparesShown seens mini)) (sym on.seens_are) shown)
 
 abbrev one_call : NodeNo → Request → NodeReply → List Call
@@ -723,6 +792,7 @@ done_quiet e w c reads plan call =
     let request = try_request c.tid c.mini n in
     record {
       goes = (called_later e n request (Say.Done reads) call).goes;
+      spares = call_all (λ (k : Call). not (is_catalog_call k)) e n request (Say.Done reads) call (ap not (plan_spared c.tid c.mini n plan));
       reads = call_seen e n request (Say.Done reads) call (plan_unseen c.tid c.mini n (Say.Done reads) plan);
       gives = call_gives e n request (Say.Done reads) call (plan_ungiven c.tid c.mini n (Say.Done reads) plan);
       good = call_all (λ (k : Call). not (is_refusal k.reply)) e n request (Say.Done reads) call refl;
@@ -731,18 +801,19 @@ done_quiet e w c reads plan call =
 
 pub done_now : (es before : List Entry) (e : Entry) (known : Known) (w : Work) (purpose : Purpose)
     (c : Coordination) (reads : List (List ℕ)) → MiniGoesOn es known w c purpose
-    → IsMadeFor before w.op w.job purpose c.mini → CoordAgrees es c
+    → IsMadeFor before w.op w.job purpose c.mini → WaitsFor known w purpose → CoordAgrees es c
     → c.done < length (participants_of c.mini) → TryAnswered e c (Say.Done reads)
     → Fits (try_request c.tid c.mini (participant c c.done)) (Say.Done reads)
     → MiniGoesOn (e ∷ es) known w (after_reply c (Say.Done reads)) purpose
-done_now es before e known w by.Catalog c reads goes (place, for, is) a next call fits =
+done_now es before e known w by.Catalog c reads goes (place, for, is) waits a next call fits =
     read_done es e known w by.Catalog c place reads goes for is a next call fits
-done_now es before e known w (by.Page addr) c reads goes (place, for, is) a next call fits =
+done_now es before e known w (by.Page addr) c reads goes (place, for, is) waits a next call fits =
     read_done es e known w (by.Page addr) c place reads goes for is a next call fits
-done_now es before e known w by.Count c reads goes (place, for, is) a next call fits =
+done_now es before e known w by.Count c reads goes (place, for, is) waits a next call fits =
     read_done es e known w by.Count c place reads goes for is a next call fits
-done_now es before e known w (by.Plan reply) c reads goes made a next call fits =
+done_now es before e known w (by.Plan reply) c reads goes made waits a next call fits =
     plan_on es e known w c.mini (done_quiet e w c reads made.0 call)
+    (λ start. absurd (plan_begun known w reply made.2 waits start))
     (called_later e (participant c c.done) (try_request c.tid c.mini (participant c c.done)) (Say.Done reads) call).issues goes
 
 -- Decisions
@@ -758,10 +829,13 @@ pub failed_on : (es : List Entry) (e : Entry) (known : Known) (w : Work) (c : Co
     → list_all (λ k. is_any_decide k.request) (call_in e.node e.what) ≡ true
     → list_all (λ k. not (is_refusal k.reply)) (call_in e.node e.what) ≡ true
     → MiniFailed es known w c reply → MiniFailed (e ∷ es) known w c reply
-failed_on es e known w c reply goes none gives decides good (fits, refused, scan, undone, last) = (
+failed_on es e known w c reply goes none gives decides good (fits, (began, refused), scan, undone, last) = (
   fits,
-  λ is busy told. subst (λ (l : List Entry). WasRefused known.nodes w.op w.failed l busy) (sym (since_on e es goes))
-      (decided_on known.nodes w.op w.failed (since_begin es) e busy (refused is busy told) decides good),
+  (
+    began_on e es w.op w.job goes began,
+    λ is busy told. subst (λ (l : List Entry). WasRefused known.nodes w.op began.from w.failed l busy) (sym (since_on e es goes))
+        (decided_on known.nodes w.op began.from w.failed (since_begin es) e busy (refused is busy told) decides good),
+  ),
   scan_since e es w goes none scan,
   undone,
   kept_still_last e es known gives last,
@@ -840,8 +914,8 @@ decided_now es before e known w purpose c d n verdict reply a made tells call fi
     subst (λ (x : Coordination). MatchOption x.refused (MiniGoesOn (e ∷ es) known w x purpose) (MiniFailed (e ∷ es) known w x)) (sym is)
     (subst (λ (q : Purpose). MatchOption c.refused (MiniGoesOn (e ∷ es) known w (record c { decided = c.decided + 1; asked = false }) q) (MiniFailed (e ∷ es) known w c)) (sym (plan.0).1)
     (match_map c.refused (PlanGoesOn es known w c.mini) (PlanGoesOn (e ∷ es) known w c.mini) (MiniFailed es known w c) (MiniFailed (e ∷ es) known w c)
-    (plan_on es e known w c.mini quiet later.issues)
-    (λ r. failed_on es e known w c r later.goes none gives (call_all (λ (k : Call). is_any_decide k.request) e n (Ask.Decide c.tid verdict) reply call refl) good)
+    (plan_on es e known w c.mini quiet (λ start. decides) later.issues)
+    (λ r. failed_on es e known w c r later.goes none gives decides good)
     (subst (λ (q : Purpose). MatchOption c.refused (MiniGoesOn es known w c q) (MiniFailed es known w c)) (plan.0).1 goes)))
   where
     later : IsLater e.what
@@ -856,9 +930,13 @@ decided_now es before e known w purpose c d n verdict reply a made tells call fi
     good : list_all (λ k. not (is_refusal k.reply)) (call_in e.node e.what) ≡ true
     good = call_all (λ (k : Call). not (is_refusal k.reply)) e n (Ask.Decide c.tid verdict) reply call (decide_fits c.tid verdict reply fits)
 
+    decides : list_all (λ k. is_any_decide k.request) (call_in e.node e.what) ≡ true
+    decides = call_all (λ (k : Call). is_any_decide k.request) e n (Ask.Decide c.tid verdict) reply call refl
+
     quiet : IsQuiet w.failed e
     quiet = record {
       goes = later.goes;
+      spares = call_all (λ (k : Call). not (is_catalog_call k)) e n (Ask.Decide c.tid verdict) reply call (ap not (and_false (nat_eq n.0 0)));
       reads = none;
       gives = gives;
       good = good;
@@ -948,7 +1026,7 @@ module _ (es : List Entry) (e : Entry) (known : Known) (w : Work) (tid : Tid) (c
   by_done reads is asked agrees =
       mini_on es e known w tid c (after_reply c (Say.Done reads)) purpose m later none agrees refl refl
       (subst (λ (o : Option NodeReply). MatchOption o (MiniGoesOn (e ∷ es) known w (after_reply c (Say.Done reads)) purpose) (MiniFailed (e ∷ es) known w (after_reply c (Say.Done reads)))) (sym asked.unrefused)
-      (done_now es m.before e known w purpose c reads (goes_on asked) m.made m.coordinates asked.next
+      (done_now es m.before e known w purpose c reads (goes_on asked) m.made waits m.coordinates asked.next
       (subst (λ (r : NodeReply). TryAnswered e c r) is (try_answered asked))
       (subst (λ (r : NodeReply). Fits (try_request c.tid c.mini (participant c c.done)) r) is (try_fits asked))))
 

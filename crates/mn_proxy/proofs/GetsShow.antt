@@ -30,7 +30,7 @@ use Rattle.mn_runs.specs.declared.entry.Entry.{Entry}
 use Rattle.mn_runs.specs.Seen.{Place, Seen, seen_at, seen_in}
 use Rattle.mn_law.specs.Places.{catalog_place, page_place}
 use Rattle.mn_law.specs.Shown.{ReadShows, ServesNamed, ShowsCatalog}
-use Rattle.mn_law.specs.Answers.{IsPageAtFault, MeetsFault, Reached, ReachesAddr, SomeReadShows}
+use Rattle.mn_law.specs.Answers.{IsKeyOf, IsPageAtFault, MeetsFault, Reached, ReachesAddr, SomeReadShows}
 use Rattle.mn_runs.proofs.Seen.{nothing}
 use Rattle.mn_law.proofs.Sees.{seen_in-cons}
 use Rattle.mn_work.specs.declared.get.Descent.{Descent}
@@ -42,11 +42,11 @@ use Rattle.mn_work.specs.Descents.{DescentTakes, FailsOff, IsFault, IsOffNodes, 
 use Rattle.mn_work.specs.Descents.{WantsPage, gone_below, may_be_leaf}
 use Rattle.mn_proxy.specs.Jobs.{GetShows, IsOfTry, ReadsShow}
 use Rattle.mn_work.specs.Seen.{SpellsNone}
-use Rattle.mn_work.specs.Walks.{Admits, FailsBy, IfLater, IsReadBy, WalkComesTo}
+use Rattle.mn_work.specs.Walks.{Admits, FailsBy, IfLater, IsReadBy, MeetsFor, WalkComesTo}
 use Rattle.mn_work.specs.Walks.{height_below, is_later, seen_page}
 use Rattle.mn_work.specs.Works.{GetTakes, GetWants, JobTakes, lone_key}
 use Rattle.mn_work.proofs.Bodies.{is_inner}
-use Rattle.mn_proxy.proofs.Tries.{reaches_on}
+use Rattle.mn_proxy.proofs.Tries.{fault_for, reaches_on}
 use Rattle.mn_work.proofs.Walks.{at_fault, bad_page, goes_below, no_node, no_page, serves_named}
 
 -- Walks
@@ -58,12 +58,13 @@ later_is n = grind (arith, nat_tests)
 pub off_is_met : (nodes failed : ℕ) (seens : List Seen) (op : Op) (entries : List CatEntry)
     (key : List ℕ) (addr : Addr) (above : Option ℕ) (cause : Option Busy)
     → WalkComesTo failed seens op entries key addr above
-    → (is_later failed ≡ true → IsOffNodes nodes addr cause) → FailsBy nodes failed seens op cause
+    → (is_later failed ≡ true → IsOffNodes nodes addr cause)
+    → FailsBy nodes failed seens op (λ other. other ≡ key) cause
 off_is_met nodes failed seens op entries key addr above None walk off = tt
 off_is_met nodes zero seens op entries key addr above (Some busy) walk off = tt
 off_is_met nodes (suc n) seens op entries key addr above (Some busy) walk off =
     let it = off (later_is n) in
-    subst (MeetsFault nodes seens op) (some_same (Path addr 0) (sym it.1))
+    subst (MeetsFor nodes seens op key) (some_same (Path addr 0) (sym it.1))
     (no_node nodes seens op entries key addr (height_below above) walk.1 it.0)
   where
     some_same : (b : Busy) → Some b ≡ Some busy → b ≡ busy
@@ -87,12 +88,12 @@ module _ (nodes failed : ℕ) (seens : List Seen) (op : Op) (entries : List CatE
     (walk : WalkComesTo failed seens op entries key addr above) (bytes : List ℕ)
     (has : IsReadBy failed seens addr bytes) where
   -- what was read is no page
-  pub none_is_met : SpellsNone bytes → IfLater failed (MeetsFault nodes seens op (Path addr 0))
+  pub none_is_met : SpellsNone bytes → IfLater failed (MeetsFor nodes seens op key (Path addr 0))
   none_is_met none = by failed walk.1 has
     where
       by : (n : ℕ) → IfLater n (ReachesAddr seens op entries key addr (height_below above))
           → IfLater n (Contains seens (seen_page addr bytes))
-          → IfLater n (MeetsFault nodes seens op (Path addr 0))
+          → IfLater n (MeetsFor nodes seens op key (Path addr 0))
       by zero reaches has = tt
       by (suc n) reaches has =
           no_page nodes seens op entries key addr (height_below above) reaches bytes has none
@@ -100,12 +101,12 @@ module _ (nodes failed : ℕ) (seens : List Seen) (op : Op) (entries : List CatE
   -- the page is at fault
   pub fault_by : (page : Page) → SpellsPage bytes page
       → IsPageAtFault entries op key (height_below above) page
-      → IfLater failed (MeetsFault nodes seens op (Path addr page.seq))
+      → IfLater failed (MeetsFor nodes seens op key (Path addr page.seq))
   fault_by page spells fault = by failed walk.1 has
     where
       by : (n : ℕ) → IfLater n (ReachesAddr seens op entries key addr (height_below above))
           → IfLater n (Contains seens (seen_page addr bytes))
-          → IfLater n (MeetsFault nodes seens op (Path addr page.seq))
+          → IfLater n (MeetsFor nodes seens op key (Path addr page.seq))
       by zero reaches has = tt
       by (suc n) reaches has =
           bad_page nodes seens op entries key addr (height_below above) reaches bytes page has spells fault
@@ -167,10 +168,11 @@ GetComes failed seens op entries key d =
     × WalkComesTo failed seens op entries key d.addr d.above
 
 -- what it wants next, or why it fails
-abbrev pub PagesOrFails : ℕ → ℕ → List Seen → Op → Next → Type 0
-PagesOrFails nodes failed seens op (Next.Page addr peek) = ⊤
-PagesOrFails nodes failed seens op (Next.Fails cause) = FailsBy nodes failed seens op cause
-PagesOrFails nodes failed seens op next = ⊥
+abbrev pub PagesOrFails : ℕ → ℕ → List Seen → Op → (List ℕ → Type 0) → Next → Type 0
+PagesOrFails nodes failed seens op IsKey (Next.Page addr peek) = ⊤
+PagesOrFails nodes failed seens op IsKey (Next.Fails cause) =
+    FailsBy nodes failed seens op IsKey cause
+PagesOrFails nodes failed seens op IsKey next = ⊥
 
 -- bytes of a page that names others
 abbrev pub SpellsHigh : List ℕ → Type 0
@@ -194,7 +196,7 @@ GetIsTold nodes failed seens op entries key bytes d e Taken.GoesOn =
 GetIsTold nodes failed seens op entries key bytes d e (Taken.Replies reply) =
     LeafReplies entries (op_version op) key bytes reply × (may_be_leaf d.above ≡ true)
 GetIsTold nodes failed seens op entries key bytes d e (Taken.Fails (Some cause)) =
-    IfLater failed (MeetsFault nodes seens op cause)
+    IfLater failed (MeetsFor nodes seens op key cause)
 GetIsTold nodes failed seens op entries key bytes d e taken = ⊥
 
 -- it begins at the root of its version
@@ -215,7 +217,8 @@ get_comes_on failed seens more op entries key d on shows =
 pub get_wants_by : (nodes failed : ℕ) (seens : List Seen) (op : Op) (entries : List CatEntry)
     (key : List ℕ) (d e : Descent) (next : Next) → GetWants nodes (is_later failed) d e next
     → GetComes failed seens op entries key d
-    → GetComes failed seens op entries key e × PagesOrFails nodes failed seens op next
+    → GetComes failed seens op entries key e
+    × PagesOrFails nodes failed seens op (λ other. other ≡ key) next
 get_wants_by nodes failed seens op entries key d e next w shows = (
   (
     subst (λ (v : VersionNo). (root : Addr) × Admits entries op v root) (sym w.version) shows.0,
@@ -233,7 +236,7 @@ get_wants_by nodes failed seens op entries key d e next w shows = (
 
     told : (next : Next) → WantsPage nodes (is_later failed) e next
         → (is_later failed ≡ true → FailsOff nodes d.addr next)
-        → PagesOrFails nodes failed seens op next
+        → PagesOrFails nodes failed seens op (λ other. other ≡ key) next
     told (Next.Page addr peek) wants fails = tt
     told (Next.Fails cause) wants fails =
         off_is_met nodes failed seens op entries key d.addr d.above cause shows.1 fails
@@ -374,7 +377,7 @@ module _ (nodes failed : ℕ) (seens : List Seen) (name key : List ℕ) (entries
     (d e : Descent) (shows : GetShows failed seens (Tx name (Get key ∷ [])) entries (at.Get d)) where
   pub get_wants : (next : Next) → GetWants nodes (is_later failed) d e next
       → GetShows failed seens (Tx name (Get key ∷ [])) entries (at.Get e)
-      × PagesOrFails nodes failed seens (Tx name (Get key ∷ [])) next
+      × PagesOrFails nodes failed seens (Tx name (Get key ∷ [])) (λ other. other ≡ key) next
   get_wants next w = get_wants_by nodes failed seens (Tx name (Get key ∷ [])) entries key d e next w shows
 
   pub get_takes : (bytes : List ℕ) (taken : Taken) → GetTakes (Some entries) key bytes d e taken
@@ -419,22 +422,57 @@ GetIsToldBy nodes failed seens op entries addr bytes d e (Taken.Replies reply) =
     → ShowsCatalog (newest ∷ before) entries → ReadShows before (seen_page addr bytes) op reply)
     × (may_be_leaf d.above ≡ true)
 GetIsToldBy nodes failed seens op entries addr bytes d e (Taken.Fails (Some cause)) =
-    IfLater failed (MeetsFault nodes seens op cause)
+    IfLater failed (MeetsFault nodes seens op (IsKeyOf op []) cause)
 GetIsToldBy nodes failed seens op entries addr bytes d e taken = ⊥
+
+-- its key is the operation's
+lone_key_is : (name : List ℕ) (steps : List Step) (key : List ℕ) → lone_key steps ≡ Some key
+    → IsKeyOf (Tx name steps) [] key
+lone_key_is name steps key is =
+    subst (λ (l : List Step). IsKeyOf (Tx name l) [] key) (sym (lone_is steps key is)) (0, lit< tt, refl)
+
+-- a later try's cause on the way of one key is one on the way of these
+later_for : (failed : ℕ) (A B : Type 0) → (A → B) → IfLater failed A → IfLater failed B
+later_for zero A B on told = tt
+later_for (suc n) A B on told = on told
+
+pub fails_for : (nodes failed : ℕ) (seens : List Seen) (op : Op) (key : List ℕ)
+    (IsKey : List ℕ → Type 0) (cause : Option Busy) → IsKey key
+    → FailsBy nodes failed seens op (λ other. other ≡ key) cause
+    → FailsBy nodes failed seens op IsKey cause
+fails_for nodes failed seens op key IsKey None is told = tt
+fails_for nodes failed seens op key IsKey (Some busy) is told =
+    later_for failed (MeetsFor nodes seens op key busy) (MeetsFault nodes seens op IsKey busy)
+    (λ fault. fault_for nodes seens op key IsKey busy is fault) told
+
+pages_for : (nodes failed : ℕ) (seens : List Seen) (op : Op) (key : List ℕ)
+    (IsKey : List ℕ → Type 0) (next : Next) → IsKey key
+    → PagesOrFails nodes failed seens op (λ other. other ≡ key) next
+    → PagesOrFails nodes failed seens op IsKey next
+pages_for nodes failed seens op key IsKey (Next.Page addr peek) is told = tt
+pages_for nodes failed seens op key IsKey (Next.Fails cause) is told =
+    fails_for nodes failed seens op key IsKey cause is told
+pages_for nodes failed seens op key IsKey Next.Catalog is told = absurd told
+pages_for nodes failed seens op key IsKey (Next.Count node peek) is told = absurd told
+pages_for nodes failed seens op key IsKey (Next.Plan mini reply) is told = absurd told
+pages_for nodes failed seens op key IsKey (Next.Answers answer) is told = absurd told
 
 module _ (nodes failed : ℕ) (seens : List Seen) (entries : List CatEntry) (d e : Descent) where
   -- what a lone Get wants, by whatever operation is under way
   pub get_wants_for : (op : Op) (next : Next) → GetShows failed seens op entries (at.Get d)
       → GetWants nodes (is_later failed) d e next
-      → GetShows failed seens op entries (at.Get e) × PagesOrFails nodes failed seens op next
-  get_wants_for (Tx name steps) next shows w = by (lone_key steps) shows
+      → GetShows failed seens op entries (at.Get e)
+      × PagesOrFails nodes failed seens op (IsKeyOf op []) next
+  get_wants_for (Tx name steps) next shows w = by (lone_key steps) refl shows
     where
-      by : (k : Option (List ℕ))
+      by : (k : Option (List ℕ)) → lone_key steps ≡ k
           → MatchOption k ⊥ (λ key. GetComes failed seens (Tx name steps) entries key d)
           → MatchOption k ⊥ (λ key. GetComes failed seens (Tx name steps) entries key e)
-          × PagesOrFails nodes failed seens (Tx name steps) next
-      by None shows = absurd shows
-      by (Some key) shows = get_wants_by nodes failed seens (Tx name steps) entries key d e next w shows
+          × PagesOrFails nodes failed seens (Tx name steps) (IsKeyOf (Tx name steps) []) next
+      by None is shows = absurd shows
+      by (Some key) is shows =
+          let it = get_wants_by nodes failed seens (Tx name steps) entries key d e next w shows in
+          (it.0, pages_for nodes failed seens (Tx name steps) key (IsKeyOf (Tx name steps) []) next (lone_key_is name steps key is) it.1)
   get_wants_for (Snapshot name child) next shows w = absurd shows
   get_wants_for (Branch name child) next shows w = absurd shows
   get_wants_for (Scan name low high limit) next shows w = absurd shows
@@ -448,7 +486,9 @@ module _ (nodes failed : ℕ) (seens : List Seen) (entries : List CatEntry) (d e
   told_for name key bytes (Taken.Replies reply) (leaf, may) =
       (λ newest before read shows. leaf_shows newest before d.addr name key bytes entries reply leaf shows read, may)
   told_for name key bytes (Taken.Fails None) told = absurd told
-  told_for name key bytes (Taken.Fails (Some cause)) told = told
+  told_for name key bytes (Taken.Fails (Some cause)) told =
+      later_for failed (MeetsFor nodes seens (Tx name (Get key ∷ [])) key cause) (MeetsFault nodes seens (Tx name (Get key ∷ [])) (IsKeyOf (Tx name (Get key ∷ [])) []) cause)
+      (λ fault. fault_for nodes seens (Tx name (Get key ∷ [])) key (IsKeyOf (Tx name (Get key ∷ [])) []) cause (0, lit< tt, refl) fault) told
 
   -- by the steps of a transaction
   by_steps : (name : List ℕ) (steps : List Step) (bytes : List ℕ) (taken : Taken)

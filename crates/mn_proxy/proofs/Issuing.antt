@@ -1,5 +1,5 @@
 -- How an operation begins, and how its proxy issues a minitransaction, by its client's own list.
-use Rattle.std.proofs.Common.{◌≡◌, ◌⊎◌, inl, inr, ℕ, zero, suc, true, false, not, ◌||◌, ◌+◌, List, [], ◌∷◌, length}
+use Rattle.std.proofs.Common.{◌≡◌, ◌⊎◌, inl, inr, ℕ, zero, suc, true, false, not, ◌||◌, ◌+◌, List, [], ◌∷◌, length, ◌++◌}
 use Rattle.std.proofs.Common.{Option, Some, None, refl, subst, sym, ap, ◌∙◌}
 use Rattle.std.specs.Prelude.{IsSome, MatchOption}
 use Rattle.std.specs.List.{list_all, flat_map}
@@ -16,7 +16,7 @@ use Rattle.mn_page.specs.declared.entry.CatEntry.{CatEntry}
 use Rattle.mn_runs.specs.declared.entry.Entry.{Entry}
 use Rattle.mn_runs.specs.declared.entry.What.{What}
 use Rattle.mn_runs.specs.declared.entry.What.TheVariants.{Begin, Issue}
-use Rattle.mn_law.specs.Answers.{IsPlanBy, IsPlanOfOp, LastIssue, MeansBy, is_refusal, nodes_of}
+use Rattle.mn_law.specs.Answers.{IsPlanBy, IsPlanOfOp, LastIssue, MeansBy, is_any_decide, is_catalog_call, is_refusal, nodes_of}
 use Rattle.mn_runs.specs.Calls.{Begun, Call, Issued, begun_of, issue_in, issues_of, since_begin, under_way, under_way_after}
 use Rattle.mn_runs.specs.Clients.{ClientAllows, is_plan, last_number}
 use Rattle.mn_law.specs.Answers.{is_peek}
@@ -40,7 +40,7 @@ use Rattle.mn_proxy.proofs.Last.{kept_still_last, own_gives_none}
 use Rattle.mn_proxy.specs.Issues.{are_closed, tid_of}
 use Rattle.mn_proxy.specs.Jobs.{ReadsShow, ScanShown}
 use Rattle.mn_proxy.specs.State.{ProxyState}
-use Rattle.mn_proxy.specs.Tries.{IsTrying}
+use Rattle.mn_proxy.specs.Tries.{IsTrying, Origin}
 use Rattle.mn_proxy.specs.Turns.{ComparesFor, MayIssue, TurnAgrees, read_mini}
 use Rattle.mn_work.specs.Walks.{IfLater}
 use Rattle.mn_work.specs.Works.{IsStartable, new_work}
@@ -51,10 +51,10 @@ use Rattle.mn_proxy.proofs.Tries.{NoPeek, begins_trying}
 
 -- Where an operation begins
 
-pub asked_at_start : (nodes failed : ℕ) (op : Op) (now before try : List Entry)
-    (catalog : Option (List CatEntry)) → JobAsked nodes failed op now before try catalog at.Start
-asked_at_start nodes failed op now before try None = tt
-asked_at_start nodes failed op now before try (Some entries) = tt
+pub asked_at_start : (nodes failed : ℕ) (op : Op) (now : List Entry) (from : Origin)
+    (catalog : Option (List CatEntry)) → JobAsked nodes failed op now from [] catalog at.Start
+asked_at_start nodes failed op now from None = refl
+asked_at_start nodes failed op now from (Some entries) = refl
 
 scan_at_start : (op : Op) → ScanShown [] false op at.Start
 scan_at_start (Tx name steps) = tt
@@ -73,10 +73,15 @@ begins_open : (es : List Entry) (e : Entry) (number : ℕ) (op : Op) (known : Kn
     → e.what ≡ Begin number op → KeptIsLast es known → IsOpen (e ∷ es) known (new_work op)
 begins_open es e number op known node is last = record {
   of = (number, ap (λ (what : What). under_way_after what (under_way es)) is);
+  began = record {
+    from = record { taken = []; older = e ∷ es };
+    all = ap (λ (l : List Entry). l ++ (e ∷ es)) (sym since);
+    place = refl;
+  };
   try = [];
   trying = trying;
-  leafless = (begins_trying known.nodes op).1;
-  asked = asked_at_start known.nodes 0 op (since_begin (e ∷ es)) trying.before [] known.catalog;
+  leafless = (begins_trying known.nodes op (e ∷ es)).1;
+  asked = asked_at_start known.nodes 0 op (since_begin (e ∷ es)) (record { taken = []; older = e ∷ es }) known.catalog;
   shows = (
     subst (λ (l : List Entry). ScanShown l false op at.Start) (sym since) (scan_at_start op),
     reads_at_start op (seen_in []) known.catalog,
@@ -87,8 +92,10 @@ begins_open es e number op known node is last = record {
     since : since_begin (e ∷ es) ≡ []
     since = since_begun e es number op is
 
-    trying : IsTrying known.nodes op 0 (since_begin (e ∷ es)) []
-    trying = subst (λ (l : List Entry). IsTrying known.nodes op 0 l []) (sym since) (begins_trying known.nodes op).0
+    trying : IsTrying known.nodes op (record { taken = []; older = e ∷ es }) 0 (since_begin (e ∷ es)) []
+    trying =
+        subst (λ (l : List Entry). IsTrying known.nodes op (record { taken = []; older = e ∷ es }) 0 l []) (sym since)
+        (begins_trying known.nodes op (e ∷ es)).0
 
 -- whatever Peeks may come, and whatever is under way
 pub own_peeks : (es : List Entry) (p : ProxyState) (peeks : ℕ) (work : Option (Work × Errand)) → IsOwn es p
@@ -183,6 +190,7 @@ issue_quiet : (failed : ℕ) (e : Entry) (tid : Tid) (mini : Mini) → e.node �
     → e.what ≡ Issue tid mini → IsQuiet failed e
 issue_quiet failed e tid mini own is = record {
   goes = issue_goes_on e tid mini is;
+  spares = ap (list_all (λ (c : Call). not (is_catalog_call c))) (own_calls_none e own);
   reads = ap (flat_map (λ (c : Call). seen_by c.node c.request c.reply)) (own_calls_none e own);
   gives = own_gives_none e own;
   good = ap (list_all (λ (c : Call). not (is_refusal c.reply))) (own_calls_none e own);
@@ -243,6 +251,7 @@ issue_agrees es p w purpose mini e own may nodes coordinates node is = record {
 
     on : GoesOnAs (e ∷ es) p.known w (seen_in may.rest.0.try)
     on = open_on es p.known w e may.rest.0 (issue_quiet w.failed e (next_tid p) mini node is)
+        (λ start. ap (list_all (λ (c : Call). is_any_decide c.request)) (own_calls_none e node))
         (λ over. over_issued p.known.nodes w.failed e (since_begin es) (next_tid p) mini is nodes)
 
 -- the client issues it, and its coordinator goes on

@@ -279,7 +279,7 @@ module _ (es : List Entry) (old : Known) (before : Work) (purpose : Purpose) (by
 
   job_for : (p : Purpose) (new : Known) (after : Work) → IsPlaceFor before.job p r.place → WaitsFor old before p
       → CameOf old new before after p bytes Taken.GoesOn → JobIsLast es after.job
-  job_for by.Catalog new after is waits came = catalog_goes new after waits.1 came.2
+  job_for by.Catalog new after is waits came = catalog_goes new after waits.1.0 came.2
   job_for (by.Page addr) new after is waits came =
       page_goes addr _ before.op before.job after.job is waits.1.0 came.2.1 (came.3 refl) r.open_before.last.1
   job_for by.Count new after is waits came = count_goes before.job after.job Taken.GoesOn is came.2.1 r.open_before.last.1

@@ -1,5 +1,5 @@
 -- How an operation is tried again, and given up, by its client's own list.
-use Rattle.std.proofs.Common.{◌≡◌, inl, inr, ℕ, zero, suc, ◌+◌, ◌<◌, ◌≤◌, Bool, false, List, []}
+use Rattle.std.proofs.Common.{◌≡◌, inl, inr, ℕ, zero, suc, ◌+◌, ◌<◌, ◌≤◌, Bool, false, List, [], ◌++◌}
 use Rattle.std.proofs.Common.{Option, Some, None, refl, subst, sym, arith}
 use Rattle.std.specs.Prelude.{MatchOption}
 use Rattle.mn_base.specs.declared.answer.Answer.TheVariants as answers
@@ -9,7 +9,7 @@ use Rattle.mn_base.specs.declared.op.Op.{Op}
 use Rattle.mn_base.specs.declared.op.Op.TheVariants.{Tx, Snapshot, Branch, Scan, Versions}
 use Rattle.mn_page.specs.declared.entry.CatEntry.{CatEntry}
 use Rattle.mn_runs.specs.declared.entry.Entry.{Entry}
-use Rattle.mn_law.specs.Answers.{FailedTries, ShowsAnswer, nodes_of}
+use Rattle.mn_law.specs.Answers.{FailedTries, IsKeyOf, ShowsAnswer, nodes_of}
 use Rattle.mn_runs.specs.Calls.{issues_of, since_begin}
 use Rattle.mn_work.specs.declared.known.Known.{Known}
 use Rattle.mn_proxy.specs.Turn as turns
@@ -18,9 +18,9 @@ use Rattle.mn_work.specs.declared.work.Job.TheVariants as at
 use Rattle.mn_work.specs.declared.work.Work.{Work}
 use Rattle.mn_proxy.specs.Agrees.{AreOverNodes, IsAtRest, IsOwn, IsOwnLast, KeptIsLast}
 use Rattle.mn_work.specs.Children.{IsUnderWay as ChildIsUnderWay}
-use Rattle.mn_proxy.specs.Jobs.{ScanShown}
+use Rattle.mn_proxy.specs.Jobs.{BeganFrom, IsKeyAt, ScanShown, StandsAt}
 use Rattle.mn_proxy.specs.State.{ProxyState}
-use Rattle.mn_proxy.specs.Tries.{HasNoLeaf, IsTrying, max_tries}
+use Rattle.mn_proxy.specs.Tries.{HasNoLeaf, HasSentNone, IsTrying, Origin, max_tries}
 use Rattle.mn_proxy.specs.Turns.{FailedNow, HasFailed, MayRetry, TurnAgrees}
 use Rattle.mn_work.specs.Walks.{IfLater, is_later}
 use Rattle.mn_work.specs.Works.{IsJobIn, IsStartable, JobIsLast, catalog_addr, retried, retried_job}
@@ -64,10 +64,11 @@ pub retried_rests : (es : List Entry) (known : Known) (w : Work)
 retried_rests es known w start last may = (
   record {
     of = may.of;
+    began = may.began;
     try = may.try;
     trying = may.trying;
     leafless = may.leafless;
-    asked = tt;
+    asked = may.sent;
     shows = (may.scan, start);
     last = ((last.0, tt), again_last es w.job);
   },
@@ -109,22 +110,25 @@ pub retries_on : (es : List Entry) (known : Known) (w : Work) (cause : Option Bu
 retries_on es known w cause busy failed told = by (failed.failed_by busy told)
   where
     with_try : (try : List Entry)
-        → IsTrying known.nodes w.op (suc w.failed) (since_begin es) try × HasNoLeaf w.op try
+        → IsTrying known.nodes w.op failed.began.from (suc w.failed) (since_begin es) try × HasNoLeaf w.op try
+        × HasSentNone try
         → MayRetry es known w
     with_try try next = record {
       of = failed.of;
       closed = failed.closed;
+      began = failed.began;
       try = try;
-      trying = subst (λ (n : ℕ). IsTrying known.nodes w.op n (since_begin es) try) (next_failed w.failed) next.0;
+      trying = subst (λ (n : ℕ). IsTrying known.nodes w.op failed.began.from n (since_begin es) try) (next_failed w.failed) next.0;
       leafless = next.1;
+      sent = next.2;
       scan = failed.scan;
     }
 
-    by : FailedNow known.nodes w.failed w.op (since_begin es) busy → MayRetry es known w
+    by : FailedNow known.nodes w.failed w.op failed.began.from (since_begin es) busy → MayRetry es known w
     by (inl refused) =
-        with_try refused.rest (retries_refused known.nodes w.op w.failed (since_begin es) busy refused)
+        with_try refused.rest (retries_refused known.nodes w.op failed.began.from w.failed (since_begin es) busy refused)
     by (inr fault) =
-        with_try [] (retries_fault known.nodes w.op w.failed (since_begin es) fault.0 busy fault.1 fault.2 fault.3)
+        with_try [] (retries_fault known.nodes w.op failed.began.from w.failed (since_begin es) fault.0 busy fault.1 fault.2 fault.3)
 
 not_later : (n : ℕ) → is_later (suc n) ≡ false → ⊥
 not_later n first = let e = later_is n in absurd cc
@@ -150,13 +154,15 @@ retries_by es known w busy failed =
     retries_on es known w (Some busy) busy failed (of_any w.failed (Some busy ≡ Some busy) refl)
 
 -- the eighth gives up
-gave_up : (nodes : ℕ) (op : Op) (now : List Entry) (busy : Busy) → AreOverNodes nodes 7 now
-    → FailedNow nodes 7 op now busy → FailedTries (nodes_of (issues_of now)) op now busy
-gave_up nodes op now busy over failed = subst (λ (n : ℕ). FailedTries n op now busy) (sym over) (by failed)
+gave_up : (nodes : ℕ) (op : Op) (from : Origin) (es now : List Entry) (busy : Busy)
+    → es ≡ now ++ from.older → AreOverNodes nodes 7 now → FailedNow nodes 7 op from now busy
+    → FailedTries (nodes_of (issues_of now)) op es now busy
+gave_up nodes op from es now busy all over failed =
+    subst (λ (n : ℕ). FailedTries n op es now busy) (sym over) (by failed)
   where
-    by : FailedNow nodes 7 op now busy → FailedTries nodes op now busy
-    by (inl refused) = gives_up_refused nodes op now busy refused
-    by (inr fault) = gives_up_fault nodes op now fault.0 busy fault.1 fault.2 fault.3
+    by : FailedNow nodes 7 op from now busy → FailedTries nodes op es now busy
+    by (inl refused) = gives_up_refused nodes op from es now busy all refused
+    by (inr fault) = gives_up_fault nodes op from es now fault.0 busy all fault.1 fault.2 fault.3
 
 last_failed : (n : ℕ) → n < max_tries → max_tries ≤ n + 1 → n ≡ 7
 last_failed n few all = omega arith
@@ -166,9 +172,9 @@ pub gives_up : (es : List Entry) (known : Known) (w : Work) (busy : Busy) → w.
     → ShowsAnswer es (since_begin es) w.op (answers.Busy busy)
 gives_up es known w busy few all failed = (
   closed_are_given_up (since_begin es) failed.closed,
-  gave_up known.nodes w.op (since_begin es) busy
+  gave_up known.nodes w.op failed.began.from es (since_begin es) busy failed.began.all
       (subst (λ (n : ℕ). AreOverNodes known.nodes n (since_begin es)) seven failed.over)
-      (subst (λ (n : ℕ). FailedNow known.nodes n w.op (since_begin es) busy) seven
+      (subst (λ (n : ℕ). FailedNow known.nodes n w.op failed.began.from (since_begin es) busy) seven
       (failed.failed_by busy (of_any w.failed (Some busy ≡ Some busy) refl))),
 )
   where
@@ -184,6 +190,43 @@ gives_up_turn es p w busy few all own failed = (
       (gives_up es p.known w busy few all failed),
   λ new enters. answered_own es new p (answers.Busy busy) own enters,
 )
+
+-- Where the tries began
+
+-- a job that begins anew stands where it stood
+pub stands_again : (op : Op) (taken : List Entry) (job : Job) → StandsAt op taken job
+    → StandsAt op taken (retried_job job)
+stands_again op taken at.Start stands = stands
+stands_again op taken (at.Get d) stands = stands
+stands_again op taken (at.Transaction a) stands = stands
+stands_again op taken (at.Child c) stands = stands
+stands_again op taken (at.Scan s) stands = stands
+
+abbrev pub began_again : (es : List Entry) (op : Op) (job : Job) → BeganFrom es op job
+    → BeganFrom es op (retried_job job)
+began_again es op job b = record {
+  from = b.from;
+  all = b.all;
+  place = stands_again op b.from.taken job b.place;
+}
+
+-- a key of the job is one of the operation
+pub key_is : (op : Op) (taken : List Entry) (job : Job) (key : List ℕ) → StandsAt op taken job
+    → IsKeyAt op job key → IsKeyOf op taken key
+key_is op taken (at.Scan s) key stands is = subst (IsKeyOf op taken) (sym is.1) (stands is.0)
+key_is op taken at.Start key stands is = subst (λ (l : List Entry). IsKeyOf op l key) (sym stands) is
+key_is op taken (at.Get d) key stands is = subst (λ (l : List Entry). IsKeyOf op l key) (sym stands) is
+key_is op taken (at.Transaction a) key stands is = subst (λ (l : List Entry). IsKeyOf op l key) (sym stands) is
+key_is op taken (at.Child c) key stands is = subst (λ (l : List Entry). IsKeyOf op l key) (sym stands) is
+
+-- also of one that begins anew
+pub key_again : (op : Op) (job : Job) (key : List ℕ) → IsKeyAt op job key
+    → IsKeyAt op (retried_job job) key
+key_again op at.Start key is = is
+key_again op (at.Get d) key is = is
+key_again op (at.Transaction a) key is = is
+key_again op (at.Child c) key is = is
+key_again op (at.Scan s) key is = is
 
 -- Scans
 

@@ -17,6 +17,7 @@ use Rattle.mn_base.specs.declared.op.Op.{Op}
 use Rattle.mn_base.specs.declared.op.Op.TheVariants.{Tx, Snapshot, Branch, Scan, Versions}
 use Rattle.mn_base.specs.declared.answer.Answer.TheVariants as answer
 use Rattle.mn_base.specs.declared.answer.Busy.{Busy}
+use Rattle.mn_base.specs.declared.answer.Busy.TheVariants.{Path}
 use Rattle.mn_base.specs.declared.reply.Pair.{Pair}
 use Rattle.mn_base.specs.declared.reply.Reply.{Reply}
 use Rattle.mn_base.specs.declared.reply.Reply.TheVariants.{NotFrozen, Pairs}
@@ -44,7 +45,7 @@ use Rattle.mn_law.specs.Places.{catalog_place, count_place, page_place}
 use Rattle.mn_law.specs.Shown.{EndsAtOrAbove, FirstCatalog, IsCatalogRead, ReachesEnd}
 use Rattle.mn_law.specs.Shown.{ScanShows, SeesCatalog, SeesPage, ServesNamed}
 use Rattle.mn_law.specs.Scans.{HasGathered, MayFollow}
-use Rattle.mn_law.specs.Answers.{BringsLeaf, EndsWithLeaf, IsPageAtFault, MeetsFault, ReachesAddr}
+use Rattle.mn_law.specs.Answers.{BringsLeaf, EndsAtKey, EndsWithLeaf, IsKeyOf, IsPageAtFault, ReachesAddr}
 use Rattle.mn_runs.proofs.Seen.{nothing}
 use Rattle.mn_law.proofs.Gathered.{gathered_is_shown, gathered_stays, leaves_are_gathered}
 use Rattle.mn_law.proofs.Sees.{seen_in-cons}
@@ -52,18 +53,19 @@ use Rattle.mn_work.specs.declared.known.Known.{Known}
 use Rattle.mn_work.specs.declared.next.Next.{Next}
 use Rattle.mn_work.specs.declared.next.Taken.{Taken}
 use Rattle.mn_work.specs.declared.work.Job.TheVariants as at
-use Rattle.mn_proxy.specs.Jobs.{EndsAt, HasScanned, IsOfTry, ReadsShow, ScanShown, StandsAtEnd}
+use Rattle.mn_proxy.specs.Jobs.{EndsAt, HasScanned, IsKeyAt, IsOfTry, ReadsShow, ScanShown, StandsAt, StandsAtEnd}
 use Rattle.mn_work.specs.Scans.{FailsOffNodes, StaysBefore, TakesBytes, TakesPage, WalksAlike}
 use Rattle.mn_work.specs.Scans.{WantsNext, goes_by}
 use Rattle.mn_work.specs.Seen.{SpellsNone}
 use Rattle.mn_proxy.specs.Tries.{HasNoLeaf}
-use Rattle.mn_work.specs.Walks.{Admits, FailsBy, IfLater, IsAbove, IsReadBy, WalkComesTo}
+use Rattle.mn_work.specs.Walks.{Admits, FailsBy, IfLater, IsAbove, IsReadBy, MeetsFor, WalkComesTo}
 use Rattle.mn_work.specs.Walks.{height_below, is_later, seen_page}
 use Rattle.mn_work.specs.Works.{IsJobIn, JobTakes, ScanEnds, ScanTakes, ScanWants}
 use Rattle.mn_work.proofs.Bodies.{is_inner}
 use Rattle.mn_proxy.proofs.GetsShow.{PagesOrFails, SpellsHigh, comes_below, comes_on, comes_to_root}
 use Rattle.mn_proxy.proofs.GetsShow.{fault_by, of_try_on}
 use Rattle.mn_proxy.proofs.GetsShow.{later_is, leaf_may_be, lone_read, none_is_met, off_is_met, page_apart}
+use Rattle.mn_proxy.proofs.Tries.{fault_for}
 use Rattle.mn_work.proofs.Walks.{at_fault, serves_named}
 
 -- Leaves in a row
@@ -372,6 +374,28 @@ scan_first e now name low high limit bytes entries version root read unread spel
 
 -- What it wants
 
+-- why it fails: a later try by a fault on the way of the key at which it stands
+scan_fails : (nodes failed : ℕ) (seens : List Seen) (op : Op) (key : List ℕ) (t : ScanState)
+    (cause : Option Busy) → (is_later failed ≡ true → IsKeyAt op (at.Scan t) key)
+    → FailsBy nodes failed seens op (λ other. other ≡ key) cause
+    → FailsBy nodes failed seens op (IsKeyAt op (at.Scan t)) cause
+scan_fails nodes failed seens op key t None is told = tt
+scan_fails nodes zero seens op key t (Some busy) is told = tt
+scan_fails nodes (suc n) seens op key t (Some busy) is told =
+    fault_for nodes seens op key (IsKeyAt op (at.Scan t)) busy (is (later_is n)) told
+
+-- it stands where one stood that walks alike
+key_alike : (op : Op) (s t : ScanState) → WalksAlike s t → s.ended ≡ false
+    → IsKeyAt op (at.Scan t) (key_at s)
+key_alike op s t alike goes =
+    (ap (λ (x : ScanState). x.ended) alike ∙ goes, sym (ap key_at alike))
+
+pub stands_alike : (op : Op) (taken : List Entry) (s t : ScanState) → WalksAlike s t
+    → StandsAt op taken (at.Scan s) → StandsAt op taken (at.Scan t)
+stands_alike op taken s t alike stands = λ goes.
+    subst (IsKeyOf op taken) (sym (ap key_at alike))
+    (stands (sym (ap (λ (x : ScanState). x.ended) alike) ∙ goes))
+
 module _ (nodes failed : ℕ) (seens : List Seen) (name : List ℕ) (low high : Option (List ℕ))
     (limit : ℕ) (entries : List CatEntry) (now : List Entry) (s t : ScanState) (next : Next) where
   -- in a later try it stands where it stood, and fails only off the nodes
@@ -379,7 +403,7 @@ module _ (nodes failed : ℕ) (seens : List Seen) (name : List ℕ) (low high : 
       → ScanComes failed seens (Scan name low high limit) entries s
       → ScanStands now name low high limit t
       × ScanComes failed seens (Scan name low high limit) entries t
-      × PagesOrFails nodes failed seens (Scan name low high limit) next
+      × PagesOrFails nodes failed seens (Scan name low high limit) (IsKeyAt (Scan name low high limit) (at.Scan t)) next
   scan_wants w has walk = (
     scan_alike now name low high limit s t w.alike has,
     (w.above, stands failed w.stands walk.1),
@@ -395,10 +419,12 @@ module _ (nodes failed : ℕ) (seens : List Seen) (name : List ℕ) (low high : 
 
       told : (next : Next) → WantsNext nodes (is_later failed) t (Some next)
           → (is_later failed ≡ true → FailsOffNodes nodes s.needed (Some next))
-          → PagesOrFails nodes failed seens (Scan name low high limit) next
+          → PagesOrFails nodes failed seens (Scan name low high limit) (IsKeyAt (Scan name low high limit) (at.Scan t)) next
       told (Next.Page addr peek) wants fails = tt
       told (Next.Fails cause) wants fails =
-          off_is_met nodes failed seens (Scan name low high limit) entries (key_at s) s.needed s.above cause walk fails
+          scan_fails nodes failed seens (Scan name low high limit) (key_at s) t cause
+          (λ later. (wants later, ap key_at (sym (w.stands later))))
+          (off_is_met nodes failed seens (Scan name low high limit) entries (key_at s) s.needed s.above cause walk fails)
       told Next.Catalog wants fails = absurd wants
       told (Next.Count node peek) wants fails = absurd wants
       told (Next.Plan mini reply) wants fails = absurd wants
@@ -528,6 +554,7 @@ module _ (e : Entry) (now : List Entry) (name : List ℕ) (low high : Option (Li
   -- a leaf that was read is taken, and begins a new count of tries
   takes_leaf : ScanStands (e ∷ now) name low high limit (fed s page)
       × EndsWithLeaf (Scan name low high limit) (e ∷ now)
+      × StandsAt (Scan name low high limit) (e ∷ now) (at.Scan (fed s page))
   takes_leaf = (
     subst (ScanStands (e ∷ now) name low high limit) (sym (fed_leaf s page.high page.low page.high page.body spells.0.body none))
         (with_leaf, stands.1, stands.2, stands.3),
@@ -542,7 +569,25 @@ module _ (e : Entry) (now : List Entry) (name : List ℕ) (low high : Option (Li
       (h.catalog, read.shown, h.sees),
       serves.0,
     ),
+    subst (λ (x : ScanState). StandsAt (Scan name low high limit) (e ∷ now) (at.Scan x)) (sym (fed_leaf s page.high page.low page.high page.body spells.0.body none))
+        (stands_behind page.high refl),
   )
+    where
+      stands_behind : (fence : Option (List ℕ)) → page.high ≡ fence
+          → (nat_le s.limit (length (gathered s (pairs_in page.body))) || is_end s.high fence) ≡ false
+          → EndsAtKey e (unwrap_or fence [])
+      stands_behind None is goes =
+          absurd (clash (nat_le s.limit (length (gathered s (pairs_in page.body))) || is_end s.high None)
+          (or_right (nat_le s.limit (length (gathered s (pairs_in page.body)))) (is_end s.high None) (end_none s.high)) goes)
+      stands_behind (Some key) fence goes = (
+        seen_page addr bytes,
+        addr,
+        page,
+        subst (λ (l : List Seen). Contains l (seen_page addr bytes)) (sym is) (0, lit< tt, refl),
+        (refl, spells),
+        none,
+        fence,
+      )
 
 -- the newest entry read the page
 abbrev pub IsNewestPage : List Entry → Addr → List ℕ → Type 0
@@ -558,10 +603,11 @@ ScanIsTold nodes failed seens name low high limit entries now bytes t Taken.Goes
     × ScanComes failed seens (Scan name low high limit) entries t × SpellsHigh bytes
 ScanIsTold nodes failed seens name low high limit entries now bytes t Taken.Leaf =
     ScanStands now name low high limit t × EndsWithLeaf (Scan name low high limit) now
+    × StandsAt (Scan name low high limit) now (at.Scan t)
 ScanIsTold nodes failed seens name low high limit entries now bytes t (Taken.Replies reply) = ⊥
 ScanIsTold nodes failed seens name low high limit entries now bytes t (Taken.Fails cause) =
     ScanStands now name low high limit t
-    × FailsBy nodes failed seens (Scan name low high limit) cause
+    × FailsBy nodes failed seens (Scan name low high limit) (IsKeyAt (Scan name low high limit) (at.Scan t)) cause
 
 module _ (nodes failed : ℕ) (seens : List Seen) (name : List ℕ) (low high : Option (List ℕ))
     (limit : ℕ) (entries : List CatEntry) (now : List Entry) (s t : ScanState) (addr : Addr)
@@ -577,8 +623,9 @@ module _ (nodes failed : ℕ) (seens : List Seen) (name : List ℕ) (low high : 
       → IsInTurn s page
       → IsNewestPage now addr bytes ⊎ (may_be_leaf s.above ≡ false)
       → ScanStands now name low high limit (fed s page) × EndsWithLeaf (Scan name low high limit) now
+      × StandsAt (Scan name low high limit) now (at.Scan (fed s page))
   leaf_of page spells fit none turn (inl (e, before, is, read)) =
-      subst (λ (l : List Entry). ScanStands l name low high limit (fed s page) × EndsWithLeaf (Scan name low high limit) l) (sym is)
+      subst (λ (l : List Entry). ScanStands l name low high limit (fed s page) × EndsWithLeaf (Scan name low high limit) l × StandsAt (Scan name low high limit) l (at.Scan (fed s page))) (sym is)
       (takes_leaf e before name low high limit s addr bytes page (subst (λ (l : List Entry). ScanStands l name low high limit s) is stands) needed.0 read spells fit none turn)
   leaf_of page spells fit none turn (inr never) =
       absurd (clash (may_be_leaf s.above) (leaf_may_be s.parents s.version.0 (key_at s) s.above page fit none) never)
@@ -597,16 +644,20 @@ module _ (nodes failed : ℕ) (seens : List Seen) (name : List ℕ) (low high : 
         (page, spells, some),
       )
   page_told page Taken.Leaf spells (goes, fit, none, turn, is) stays =
-      let leaf = leaf_of page spells fit none turn came in
-      (subst (ScanStands now name low high limit) (sym is) leaf.0, leaf.1)
+      let leaf = leaf_of page spells fit none turn came in (
+        subst (ScanStands now name low high limit) (sym is) leaf.0,
+        leaf.1,
+        subst (λ (x : ScanState). StandsAt (Scan name low high limit) now (at.Scan x)) (sym is) leaf.2,
+      )
   page_told page (Taken.Replies reply) spells takes stays = absurd takes
   page_told page (Taken.Fails None) spells takes stays =
       (scan_alike now name low high limit s t stays stands, tt)
   page_told page (Taken.Fails (Some cause)) spells (off, is) stays = (
     scan_alike now name low high limit s t stays stands,
-    subst (λ (b : Busy). IfLater failed (MeetsFault nodes seens (Scan name low high limit) b)) (sym is)
+    scan_fails nodes failed seens (Scan name low high limit) (key_at s) t (Some cause) (λ later. key_alike (Scan name low high limit) s t stays needed.0)
+        (subst (λ (b : Busy). IfLater failed (MeetsFor nodes seens (Scan name low high limit) (key_at s) b)) (sym is)
         (fault_by nodes failed seens (Scan name low high limit) entries (key_at s) addr s.above there bytes has page spells
-        (off_at entries name low high limit s page walk.0 off)),
+        (off_at entries name low high limit s page walk.0 off))),
   )
 
   bytes_told : (taken : Taken) → TakesBytes (Some entries) name s addr bytes t taken
@@ -616,7 +667,8 @@ module _ (nodes failed : ℕ) (seens : List Seen) (name : List ℕ) (low high : 
       let alike : WalksAlike s t = subst (StaysBefore s t) is stays in
       subst (ScanIsTold nodes failed seens name low high limit entries now bytes t) (sym is) (
         scan_alike now name low high limit s t alike stands,
-        none_is_met nodes failed seens (Scan name low high limit) entries (key_at s) addr s.above there bytes has none,
+        scan_fails nodes failed seens (Scan name low high limit) (key_at s) t (Some (Path addr 0)) (λ later. key_alike (Scan name low high limit) s t alike needed.0)
+            (none_is_met nodes failed seens (Scan name low high limit) entries (key_at s) addr s.above there bytes has none),
       )
   bytes_told taken (inr (page, spells, takes)) stays = page_told page taken spells takes stays
 
@@ -705,7 +757,7 @@ module _ (nodes failed : ℕ) (seens : List Seen) (entries : List CatEntry) (kno
       → ScanShown now spoiled op (at.Scan s) → ScanComes failed seens op entries s
       → ScanWants nodes (is_later failed) s t next
       → ScanShown now spoiled op (at.Scan t) × ScanComes failed seens op entries t
-      × PagesOrFails nodes failed seens op next
+      × PagesOrFails nodes failed seens op (IsKeyAt op (at.Scan t)) next
   scan_wants_for (Tx name steps) next is shown walk w = absurd is
   scan_wants_for (Snapshot name child) next is shown walk w = absurd is
   scan_wants_for (Branch name child) next is shown walk w = absurd is
@@ -732,10 +784,11 @@ abbrev pub ScanIsToldBy : ℕ → ℕ → List Seen → Op → List CatEntry →
 ScanIsToldBy nodes failed seens op entries now spoiled bytes t Taken.GoesOn =
     ScanShown now spoiled op (at.Scan t) × ScanComes failed seens op entries t × SpellsHigh bytes
 ScanIsToldBy nodes failed seens op entries now spoiled bytes t Taken.Leaf =
-    ScanShown now spoiled op (at.Scan t) × EndsWithLeaf op now
+    ScanShown now spoiled op (at.Scan t) × EndsWithLeaf op now × StandsAt op now (at.Scan t)
 ScanIsToldBy nodes failed seens op entries now spoiled bytes t (Taken.Replies reply) = ⊥
 ScanIsToldBy nodes failed seens op entries now spoiled bytes t (Taken.Fails cause) =
-    ScanShown now spoiled op (at.Scan t) × FailsBy nodes failed seens op cause
+    ScanShown now spoiled op (at.Scan t)
+    × FailsBy nodes failed seens op (IsKeyAt op (at.Scan t)) cause
 
 told_for : (nodes failed : ℕ) (seens : List Seen) (name : List ℕ) (low high : Option (List ℕ))
     (limit : ℕ) (entries : List CatEntry) (now : List Entry) (spoiled : Bool) (bytes : List ℕ)

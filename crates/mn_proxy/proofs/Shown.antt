@@ -41,7 +41,7 @@ use Rattle.mn_proxy.specs.Agrees.{AreComparesShown}
 use Rattle.mn_work.specs.Last.{CatalogIsLast}
 use Rattle.mn_work.specs.Works.{JobIsLast}
 use Rattle.mn_work.specs.Counts.{IsCountOf, SpellsNoCount, count_addr}
-use Rattle.mn_proxy.specs.Jobs.{AreCounted, ReadsShow}
+use Rattle.mn_proxy.specs.Jobs.{AreCounted, IsKeyAt, ReadsShow}
 use Rattle.mn_work.specs.Walks.{Admits, IfLater, is_later}
 
 -- what is shown where it wants this: that a plan is one of the operation, with its compares, why it
@@ -69,7 +69,7 @@ WantShown nodes failed seens op entries job (Next.Plan mini reply) =
     × IfLater failed (AreComparesShown seens mini) × (mini.nodes ≡ nodes)
     × IsTrue (is_plan mini.items)
 WantShown nodes failed seens op entries job (Next.Fails (Some cause)) =
-    IfLater failed (MeetsFault nodes seens op cause)
+    IfLater failed (MeetsFault nodes seens op (IsKeyAt op job) cause)
 WantShown nodes failed seens op entries job (Next.Answers answer) =
     AnswerShown nodes failed seens op answer
 WantShown nodes failed seens op entries job Next.Catalog = ⊥
@@ -79,7 +79,7 @@ WantShown nodes failed seens op entries job next = ⊤
 abbrev pub TakenShown : ℕ → ℕ → List Seen → Op → List CatEntry → Job → Taken → Type 0
 TakenShown nodes failed seens op entries job Taken.GoesOn = ReadsShow failed seens op entries job
 TakenShown nodes failed seens op entries job (Taken.Fails (Some cause)) =
-    IfLater failed (MeetsFault nodes seens op cause)
+    IfLater failed (MeetsFault nodes seens op (IsKeyAt op job) cause)
 TakenShown nodes failed seens op entries job (Taken.Fails None) = ⊤
 TakenShown nodes failed seens op entries job taken = ⊥
 
@@ -223,10 +223,10 @@ free_shown left nodes seens counts free small long is told = (
 )
 
 -- bytes that are no count are a fault
-pub bad_count : (nodes : ℕ) (seens : List Seen) (op : Op) (counts bytes : List ℕ)
-    → Contains seens (seen_count counts bytes) → SpellsNoCount bytes
-    → MeetsFault nodes seens op (Path (count_addr counts) 0)
-bad_count nodes seens op counts bytes has none =
+pub bad_count : (nodes : ℕ) (seens : List Seen) (op : Op) (IsKey : List ℕ → Type 0)
+    (counts bytes : List ℕ) → Contains seens (seen_count counts bytes) → SpellsNoCount bytes
+    → MeetsFault nodes seens op IsKey (Path (count_addr counts) 0)
+bad_count nodes seens op IsKey counts bytes has none =
     inr (inr (seen_count counts bytes, has, inr (refl, λ count low is. none count (low, is)), refl, refl))
 
 -- none were read yet

@@ -27,7 +27,7 @@ use Rattle.mn_page.specs.Space.{count_size, count_start, entry_start}
 use Rattle.mn_tree.specs.Moves.{Comes, Does, LeadsTo, Move, comes_in}
 use Rattle.mn_tree.specs.State.{Drafted, drafted_after, drafted_with, no_pages}
 use Rattle.mn_tree.specs.Tries.{ComeTo}
-use Rattle.mn_law.specs.Answers.{FreeSlots, MeetsFault, ShowsBytes, ShowsExpected}
+use Rattle.mn_law.specs.Answers.{FreeSlots, IsKeyOf, MeetsFault, ShowsBytes, ShowsExpected}
 use Rattle.mn_law.specs.Needs.{NeedsSlots, ReadsTree, WritesOld}
 use Rattle.mn_runs.specs.Seen.{Place, Seen}
 use Rattle.mn_law.specs.Places.{catalog_node, number_size}
@@ -50,6 +50,7 @@ use Rattle.mn_proxy.specs.Jobs.{AreCounted, IsOfTry, ReadsShow}
 use Rattle.mn_work.specs.Walks.{Admits, IfLater, is_later, seen_page}
 use Rattle.mn_work.specs.Works.{JobCounts, JobTakes, JobWants, StepsTake, StepsWant}
 use Rattle.mn_work.proofs.Attempts.{admits_after, of_kept, take_all}
+use Rattle.mn_proxy.proofs.Tries.{fault_for}
 use Rattle.mn_proxy.proofs.Shown.{AnswerShown, TakenShown, WantShown, bad_count, begin_shown, counted_next, entry_shown, free_shown, later_is, none_counted, not_later, root_reached, seen_count, whole_shown}
 
 -- The pages of a try
@@ -121,11 +122,11 @@ module _ (nodes : ℕ) (seens : List Seen) (op : Op) (entries : List CatEntry) w
       is_cause x y e = cc
 
       fails : (n : ℕ) → IfLater n (Contains seens (seen_count a.counts.items bytes))
-          → IfLater n (MeetsFault nodes seens op cause)
+          → IfLater n (MeetsFault nodes seens op (IsKeyOf op []) cause)
       fails zero told = tt
       fails (suc n) told =
-          subst (MeetsFault nodes seens op) (is_cause cause _ counts.1)
-          (bad_count nodes seens op a.counts.items bytes told counts.0)
+          subst (MeetsFault nodes seens op (IsKeyOf op [])) (is_cause cause _ counts.1)
+          (bad_count nodes seens op (IsKeyOf op []) a.counts.items bytes told counts.0)
   counts_shown failed bytes a b (Taken.Fails None) counts same has shows = tt
   counts_shown failed bytes a b Taken.Leaf counts same has shows = absurd counts
   counts_shown failed bytes a b (Taken.Replies reply) counts same has shows = absurd counts
@@ -190,11 +191,23 @@ module _ (nodes : ℕ) (seens : List Seen) (name : List ℕ) (steps : List Step)
   cause_shown : (a : Attempt) (seen : Seen) (cause : Busy) → Contains seens seen
       → SeesCatalog seen entries → AreBrought seens a.pages.items
       → Admits entries op a.version a.root → IsCause nodes entries steps a cause
-      → MeetsFault nodes seens op cause
+      → MeetsFault nodes seens op (IsKeyOf op []) cause
   cause_shown a seen cause has sees brought admits is =
-      is.met seens op
+      fault_for nodes seens op (step_key is.step) (IsKeyOf op []) cause (key_of steps a.done is.step is.next)
+      (is.met seens op
       (admits.named, root_reached seens op entries a.version a.root (step_key is.step) seen has sees admits)
-      brought
+      brought)
+    where
+      -- it is one of the steps
+      key_of : (l : List Step) (k : ℕ) (step : Step) → slice_get l k ≡ Some step
+          → Contains (map step_key l) (step_key step)
+      key_of [] k step is = absurd cc
+      key_of (x ∷ l) zero step is = (0, omega arith, ap step_key (some_same x step is))
+        where
+          some_same : (x y : Step) → Some x ≡ Some y → x ≡ y
+          some_same x y e = cc
+      key_of (x ∷ l) (suc k) step is =
+          let rest = key_of l k step is in (suc rest.0, (let low = rest.1 in omega arith), rest.2)
 
   -- all steps were done on the tree
   come_by : (a : Attempt) (way : IsUnderWay nodes entries steps a) (entry : CatEntry)
@@ -287,7 +300,7 @@ module _ (nodes : ℕ) (seens : List Seen) (name : List ℕ) (steps : List Step)
     fails_shown : (failed : ℕ) (b : Attempt) (cause : Busy)
         → (is_later failed ≡ true → IsCause nodes entries steps b cause)
         → ReadsShow failed seens op entries (at.Transaction b)
-        → IfLater failed (MeetsFault nodes seens op cause)
+        → IfLater failed (MeetsFault nodes seens op (IsKeyOf op []) cause)
     fails_shown zero b cause is shows = tt
     fails_shown (suc later) b cause is shows =
         cause_shown b shows.0.0 cause shows.0.1 shows.0.2 shows.1 shows.3 (is (later_is later))

@@ -1,7 +1,7 @@
 -- What came of what a try has read, and what its client's own list shows of that.
 use Rattle.std.proofs.Common.{◌≡◌, ◌≢◌, ◌⊎◌, inl, inr, ℕ, zero, suc, ◌<◌, Bool, true, false, not}
 use Rattle.std.proofs.Common.{List, [], ◌∷◌, ◌++◌, length, Option, Some, None, Result, Ok, Err, refl, subst, sym, ap, ◌∙◌, arith, lit<, Contains}
-use Rattle.std.specs.Prelude.{MatchOption, ⊤, ◌≤◌, IfOk, IsErr, OnErr}
+use Rattle.std.specs.Prelude.{MatchOption, ⊤, ◌≤◌, ◌&&◌, nat_eq, IfOk, IsErr, OnErr}
 use Rattle.std.specs.List.{list_all}
 use Rattle.mn_base.specs.declared.answer.Answer.TheVariants as answers
 use Rattle.mn_base.specs.declared.answer.Busy.{Busy}
@@ -17,9 +17,9 @@ use Rattle.mn_mini.specs.declared.request.Request.TheVariants as Ask
 use Rattle.mn_page.specs.declared.entry.CatEntry.{CatEntry}
 use Rattle.mn_scan.specs.Scan.{IsNeeded, ScanState, may_be_leaf}
 use Rattle.mn_runs.specs.declared.entry.Entry.{Entry}
-use Rattle.mn_law.specs.Answers.{BringsLeaf, EndsWithLeaf, IsWhole, LeafIsNewest, MayBeKept}
-use Rattle.mn_law.specs.Answers.{MeetsFault, SomeReadShows, is_peek, is_refusal}
-use Rattle.mn_runs.specs.Calls.{Call, call_in, issues_of, since_begin}
+use Rattle.mn_law.specs.Answers.{BringsLeaf, EndsWithLeaf, IsKeyOf, IsWhole, LeafIsNewest, MayBeKept}
+use Rattle.mn_law.specs.Answers.{MeetsFault, SomeReadShows, asks_at_first, is_catalog_call, is_peek, is_refusal}
+use Rattle.mn_runs.specs.Calls.{Call, call_in, calls_of, issues_of, since_begin}
 use Rattle.mn_runs.specs.Seen.{Place, Seen, seen_at, seen_in}
 use Rattle.mn_law.specs.Places.{catalog_place, count_place}
 use Rattle.mn_law.specs.Shown.{ReadShows, ShowsCatalog}
@@ -41,30 +41,33 @@ use Rattle.mn_proxy.proofs.Last.{job_read, kept_read, leaf_read}
 use Rattle.mn_work.specs.Catalogs.{TellsVersions}
 use Rattle.mn_work.specs.Children as children
 use Rattle.mn_proxy.specs.Issues.{AreClosed, AreIssues}
-use Rattle.mn_proxy.specs.Jobs.{JobShows, ReadsShow, ReadsShowBy, ScanShown}
+use Rattle.mn_proxy.specs.Jobs.{IsKeyAt, JobShows, ReadsShow, ReadsShowBy, ScanShown, StandsAt}
 use Rattle.mn_work.specs.Knows.{ArePages, KeepsKnown}
 use Rattle.mn_proxy.specs.State.{ProxyState}
-use Rattle.mn_proxy.specs.Tries.{HasAsked, HasNoLeaf, IsTrying, max_tries}
+use Rattle.mn_proxy.specs.Tries.{HasAsked, HasNoLeaf, HasSentNone, IsTrying, Origin, max_tries}
 use Rattle.mn_proxy.specs.Turns.{CameOf, HasFailed, IsSoundInside, IsSoundUnderWay, KeepsSelf, Leaves, TurnAgrees, WaitsFor, with_known}
 use Rattle.mn_proxy.specs.declared.proxy.Proxy.TheInside.{Inside}
 use Rattle.mn_proxy.specs.Turn.{Turn, turned}
 use Rattle.mn_proxy.specs.declared.step.ProxyStep.{ProxyStep}
 use Rattle.mn_proxy.specs.Turn as turns
 use Rattle.mn_work.specs.Walks.{FailsBy, IfLater, is_later, seen_page}
-use Rattle.mn_work.specs.Works.{AsksCountFor, AsksPageFor, IsJobIn, IsJobOf, IsScan, IsStartable, JobCounts, JobIsLast, JobTakes, KeepsOp}
+use Rattle.mn_work.specs.Works.{AsksCountFor, AsksPageFor, IsJobIn, IsJobOf, IsScan, IsStartable, IsToAsk, JobCounts, JobIsLast, JobTakes, KeepsOp}
 use Rattle.mn_work.specs.Works.{TakesCatalog, TakesCountBytes, TakesPageBytes, counts_of, retried_job}
-use Rattle.mn_proxy.proofs.CatalogsShow.{asks_now, catalog_seen, fails_scan, fails_shows, goes_on_shows, has_asked, replies_shows}
+use Rattle.mn_proxy.proofs.CatalogsShow.{Began, asks_now, catalog_seen, fails_same, fails_scan, fails_shows, goes_on_shows, goes_on_stands}
+use Rattle.mn_proxy.proofs.CatalogsShow.{has_asked, replies_shows}
 use Rattle.mn_proxy.proofs.CatalogsShow.{retried_scan, retried_scan_as, shows_catalog}
 use Rattle.mn_proxy.proofs.ChildrenShow.{child_counts_for, child_takes_for}
 use Rattle.mn_proxy.proofs.GetsShow.{GetIsToldBy, SpellsHigh, get_takes_for}
 use Rattle.mn_proxy.proofs.Issues.{GoesOn, called_later, closed_are_given_up, closed_are_settled, since_on}
 use Rattle.mn_proxy.proofs.Answered.{answered_own, may_answer}
-use Rattle.mn_proxy.proofs.Opens.{asked_on, tried_on, under_way_still}
+use Rattle.mn_proxy.proofs.Feeding.{IsApart, and_false, count_is_apart, page_is_apart, place_spared}
+use Rattle.mn_proxy.proofs.Opens.{all_on, asked_on, tried_on, under_way_still}
 use Rattle.mn_proxy.proofs.ReadsShow.{more_reads}
-use Rattle.mn_proxy.proofs.ScansShow.{IsNewestPage, ScanIsToldBy, catalog_no_leaf, high_no_leaf, leafless_on, peek_at, read_at, scan_shown_on, scan_takes_for, silent_no_leaf}
+use Rattle.mn_proxy.proofs.ScansShow.{IsNewestPage, ScanIsToldBy, catalog_no_leaf, high_no_leaf, leafless_on, peek_at, read_at, scan_shown_on, scan_takes_for, silent_no_leaf, stands_alike}
 use Rattle.mn_proxy.proofs.Shown.{TakenShown, seen_count}
 use Rattle.mn_proxy.proofs.StepsShow.{steps_count_for, steps_take_for}
-use Rattle.mn_proxy.proofs.Tries.{NoPeek, trying_on}
+use Rattle.mn_proxy.proofs.Retrying.{key_again, key_is, stands_again}
+use Rattle.mn_proxy.proofs.Tries.{NoPeek, fault_on, first_on, spares_on, trying_on}
 use Rattle.mn_work.proofs.Works.{count_taken, page_taken, retried_after_count, retried_after_page, retry_after_catalog}
 use Rattle.mn_work.proofs.Works.{retry_after_count, retry_after_page, starts_right}
 
@@ -167,25 +170,85 @@ count_begun known op (at.Child c) is asks =
 count_begun known op job is asks = absurd asks
 
 -- it asked for the catalog, where it had to
-asked_begun : (nodes failed : ℕ) (op : Op) (now before try : List Entry) (entries : List CatEntry)
-    (job : Job) → job ≢ at.Start → JobAsked nodes failed op now before try (Some entries) job
-    → HasAsked failed op before try × AreOverNodes nodes failed now
-asked_begun nodes failed op now before try entries at.Start begun asked = absurd (begun refl)
-asked_begun nodes failed op now before try entries (at.Get d) begun asked = asked
-asked_begun nodes failed op now before try entries (at.Transaction a) begun asked = asked
-asked_begun nodes failed op now before try entries (at.Child c) begun asked = asked
-asked_begun nodes failed op now before try entries (at.Scan s) begun asked = asked
+asked_begun : (nodes failed : ℕ) (op : Op) (now : List Entry) (from : Origin) (try : List Entry)
+    (entries : List CatEntry) (job : Job) → job ≢ at.Start
+    → JobAsked nodes failed op now from try (Some entries) job
+    → HasAsked failed op from try × AreOverNodes nodes failed now
+asked_begun nodes failed op now from try entries at.Start begun asked = absurd (begun refl)
+asked_begun nodes failed op now from try entries (at.Get d) begun asked = asked
+asked_begun nodes failed op now from try entries (at.Transaction a) begun asked = asked
+asked_begun nodes failed op now from try entries (at.Child c) begun asked = asked
+asked_begun nodes failed op now from try entries (at.Scan s) begun asked = asked
 
--- what has asked, whatever is kept
-asked_any : (nodes failed : ℕ) (op : Op) (now before try : List Entry) (catalog : Option (List CatEntry))
-    (job : Job) → HasAsked failed op before try × AreOverNodes nodes failed now
-    → JobAsked nodes failed op now before try catalog job
-asked_any nodes failed op now before try None job asked = tt
-asked_any nodes failed op now before try (Some entries) at.Start asked = tt
-asked_any nodes failed op now before try (Some entries) (at.Get d) asked = asked
-asked_any nodes failed op now before try (Some entries) (at.Transaction a) asked = asked
-asked_any nodes failed op now before try (Some entries) (at.Child c) asked = asked
-asked_any nodes failed op now before try (Some entries) (at.Scan s) asked = asked
+-- a job that has begun, by a kept catalog
+pub asked_any : (nodes failed : ℕ) (op : Op) (now : List Entry) (from : Origin) (try : List Entry)
+    (catalog : Option (List CatEntry)) (job : Job) → job ≢ at.Start → catalog ≢ None
+    → HasAsked failed op from try × AreOverNodes nodes failed now
+    → JobAsked nodes failed op now from try catalog job
+asked_any nodes failed op now from try None job begun some asked = absurd (some refl)
+asked_any nodes failed op now from try (Some entries) at.Start begun some asked = absurd (begun refl)
+asked_any nodes failed op now from try (Some entries) (at.Get d) begun some asked = asked
+asked_any nodes failed op now from try (Some entries) (at.Transaction a) begun some asked = asked
+asked_any nodes failed op now from try (Some entries) (at.Child c) begun some asked = asked
+asked_any nodes failed op now from try (Some entries) (at.Scan s) begun some asked = asked
+
+-- a try with no entry has asked for nothing
+asked_anew : (nodes : ℕ) (op : Op) (now : List Entry) (from : Origin)
+    (catalog : Option (List CatEntry)) (job : Job) → HasAsked 0 op from []
+    → JobAsked nodes 0 op now from [] catalog job
+asked_anew nodes op now from None job asked = refl
+asked_anew nodes op now from (Some entries) at.Start asked = refl
+asked_anew nodes op now from (Some entries) (at.Get d) asked = (asked, tt)
+asked_anew nodes op now from (Some entries) (at.Transaction a) asked = (asked, tt)
+asked_anew nodes op now from (Some entries) (at.Child c) asked = (asked, tt)
+asked_anew nodes op now from (Some entries) (at.Scan s) asked = (asked, tt)
+
+-- one that is still to ask has sent nothing
+sent_none : (nodes failed : ℕ) (op : Op) (now : List Entry) (from : Origin) (try : List Entry)
+    (catalog : Option (List CatEntry)) (job : Job) → IsToAsk catalog job
+    → JobAsked nodes failed op now from try catalog job → HasSentNone try
+sent_none nodes failed op now from try None job to_ask asked = asked
+sent_none nodes failed op now from try (Some entries) at.Start to_ask asked = asked
+sent_none nodes failed op now from try (Some entries) (at.Get d) (inl start) asked = absurd cc
+sent_none nodes failed op now from try (Some entries) (at.Get d) (inr none) asked = absurd cc
+sent_none nodes failed op now from try (Some entries) (at.Transaction a) (inl start) asked = absurd cc
+sent_none nodes failed op now from try (Some entries) (at.Transaction a) (inr none) asked = absurd cc
+sent_none nodes failed op now from try (Some entries) (at.Child c) (inl start) asked = absurd cc
+sent_none nodes failed op now from try (Some entries) (at.Child c) (inr none) asked = absurd cc
+sent_none nodes failed op now from try (Some entries) (at.Scan s) (inl start) asked = absurd cc
+sent_none nodes failed op now from try (Some entries) (at.Scan s) (inr none) asked = absurd cc
+
+-- a read of a page or a count asks for no catalog
+read_spares : (e : Entry) (place : Place) (bytes : List ℕ) → IsApart place
+    → IsReadOf e place bytes ⊎ IsPeekOf e place bytes
+    → list_all (λ c. not (is_catalog_call c)) (call_in e.node e.what) ≡ true
+read_spares e place bytes apart (inl (tid, long, is)) =
+    ap (list_all (λ (c : Call). not (is_catalog_call c))) is
+    ∙ ap (λ b. not b && true) (place_spared place.node tid place (Ask.Exec tid (Bare.Read place.start place.length ∷ [])) apart refl)
+read_spares e place bytes apart (inr (long, is)) =
+    ap (list_all (λ (c : Call). not (is_catalog_call c))) is
+    ∙ ap (λ b. not b && true) (and_false (nat_eq place.node.0 0))
+
+-- Jobs that took something
+
+-- a job that took a page has begun, and stands where it stood where it goes on
+page_stands : (known : Known) (later : Bool) (addr : Addr) (bytes : List ℕ) (op : Op) (taken : List Entry)
+    (before after : Job) → JobTakes known later addr bytes op before after Taken.GoesOn
+    → StandsAt op taken before → Began op taken after
+page_stands known later addr bytes (Tx name steps) taken (at.Get d) (at.Get f) takes stands = (stands, λ e. absurd cc)
+page_stands known later addr bytes (Tx name steps) taken (at.Transaction a) (at.Transaction b) takes stands =
+    (stands, λ e. absurd cc)
+page_stands known later addr bytes op taken (at.Child c) (at.Child d) takes stands = (stands, λ e. absurd cc)
+page_stands known later addr bytes (Scan name low high limit) taken (at.Scan s) (at.Scan t) takes stands =
+    (stands_alike (Scan name low high limit) taken s t takes.stays stands, λ e. absurd cc)
+page_stands known later addr bytes op taken before after takes stands = absurd takes
+
+-- so does one that took a count
+count_stands : (op : Op) (bytes : List ℕ) (taken : List Entry) (before after : Job)
+    → JobCounts bytes before after Taken.GoesOn → StandsAt op taken before → Began op taken after
+count_stands op bytes taken (at.Transaction a) (at.Transaction b) counts stands = (stands, λ e. absurd cc)
+count_stands op bytes taken (at.Child c) (at.Child d) counts stands = (stands, λ e. absurd cc)
+count_stands op bytes taken before after counts stands = absurd counts
 
 -- one more entry takes nothing from what a scan has shown
 scan_begun_on : (e : Entry) (now : List Entry) (spoiled : Bool) (op : Op) (job : Job) → job ≢ at.Start
@@ -198,10 +261,10 @@ scan_begun_on e now spoiled op job begun shown = tt
 -- What the bytes tell
 
 -- where a leaf was taken a new count of tries begins
-abbrev pub BeginsAnew : Op → List Entry → Type 0
-BeginsAnew op now =
+abbrev pub BeginsAnew : Op → List Entry → Job → Type 0
+BeginsAnew op now job =
     IsWhole op now × EndsWithLeaf op now × LeafIsNewest op [] × HasNoLeaf op []
-    × MayBeKept op now []
+    × ((older : List Entry) → MayBeKept older op now []) × StandsAt op now job
 
 -- what the list shows of the job then: its reads, the reply, or the fault that the try met
 abbrev pub JobTold : ℕ → ℕ → Op → List CatEntry → Entry → List Entry → List Entry → Bool → Job → Taken
@@ -210,12 +273,12 @@ JobTold nodes failed op entries e now try spoiled job Taken.GoesOn =
     ReadsShow failed (seen_in (e ∷ try)) op entries job × ScanShown (e ∷ now) spoiled op job
     × HasNoLeaf op (e ∷ try)
 JobTold nodes failed op entries e now try spoiled job Taken.Leaf =
-    ReadsShow 0 [] op entries job × ScanShown (e ∷ now) spoiled op job × BeginsAnew op (e ∷ now)
+    ReadsShow 0 [] op entries job × ScanShown (e ∷ now) spoiled op job × BeginsAnew op (e ∷ now) job
 JobTold nodes failed op entries e now try spoiled job (Taken.Replies reply) =
     (seen : Seen) × (seen_at e ≡ seen ∷ [])
     × ((before : List Entry) → ShowsCatalog (e ∷ before) entries → ReadShows before seen op reply)
 JobTold nodes failed op entries e now try spoiled job (Taken.Fails cause) =
-    FailsBy nodes failed (seen_in (e ∷ try)) op cause
+    FailsBy nodes failed (seen_in (e ∷ try)) op (IsKeyAt op job) cause
 
 -- a Snapshot or a Branch is no scan
 child_alone : (known : Known) (op : Op) (c : Child) → IsJobIn known op (at.Child c)
@@ -328,7 +391,7 @@ module _ (known : Known) (failed : ℕ) (entries : List CatEntry) (kept : known.
         told.0,
         leafless_on (Scan name low high limit) e try (no_leaf came told.2) leafless,
       )
-      by Taken.Leaf takes told = ((tt, (takes.above, tt)), told.0, (tt, told.1, tt, tt, tt))
+      by Taken.Leaf takes told = ((tt, (takes.above, tt)), told.0, (tt, told.1, tt, tt, λ older. tt, told.2))
       by (Taken.Replies reply) takes told = absurd told
       by (Taken.Fails cause) takes told = told.1
   scan_told (Tx name steps) s t taken came needed takes reads shown leafless = absurd takes
@@ -401,16 +464,17 @@ same_known known new nodes =
 module _ (e : Entry) (bs : List Entry) (old new : Known) (before after : Work)
     (o : IsOpen bs old before) (goes : GoesOn e.what)
     (good : list_all (λ c. not (is_refusal c.reply)) (call_in e.node e.what) ≡ true)
-    (peeks : NoPeek before.failed e) (nodes : new.nodes ≡ old.nodes) (keeps : KeepsOp before after) where
+    (peeks : NoPeek before.failed e) (first : asks_at_first (calls_of (e ∷ o.try)) ≡ true)
+    (nodes : new.nodes ≡ old.nodes) (keeps : KeepsOp before after) where
   -- the entry is one of the operation
   since : since_begin (e ∷ bs) ≡ e ∷ since_begin bs
   since = since_on e bs goes
 
   -- and one of its try
-  tried : (u : IsTrying old.nodes before.op before.failed (since_begin (e ∷ bs)) (e ∷ o.try)) × (u.before ≡ o.trying.before)
+  tried : IsTrying old.nodes before.op o.began.from before.failed (since_begin (e ∷ bs)) (e ∷ o.try)
   tried =
-      tried_on bs old.nodes before.op before.failed o.try e o.trying since
-      (trying_on old.nodes before.op before.failed (since_begin bs) o.try e o.trying o.leafless good peeks)
+      tried_on bs old.nodes before.op o.began.from before.failed o.try e since
+      (trying_on old.nodes before.op o.began.from before.failed (since_begin bs) o.try e o.trying o.leafless good peeks first)
 
   -- the same operation is under way
   under_way_now : IsUnderWay (e ∷ bs) after.op
@@ -418,27 +482,36 @@ module _ (e : Entry) (bs : List Entry) (old new : Known) (before after : Work)
       subst (λ (x : Op). IsUnderWay (e ∷ bs) x) (sym keeps.0) (under_way_still e bs before.op goes o.of)
 
   -- the try goes on with it
-  pub open_with : JobAsked old.nodes before.failed before.op (e ∷ since_begin bs) o.trying.before (e ∷ o.try) new.catalog after.job
+  pub open_with : StandsAt before.op o.began.from.taken after.job
+      → JobAsked old.nodes before.failed before.op (e ∷ since_begin bs) o.began.from (e ∷ o.try) new.catalog after.job
       → ScanShown (e ∷ since_begin bs) after.spoiled before.op after.job
       → ReadsShowBy new before.failed (seen_in (e ∷ o.try)) before.op after.job
       → HasNoLeaf before.op (e ∷ o.try) → KeptIsLast (e ∷ bs) new → JobIsLast (e ∷ bs) after.job
       → IsOpen (e ∷ bs) new after
-  open_with asked shown reads leafless kept_last job_last =
+  open_with place asked shown reads leafless kept_last job_last =
       subst (λ (k : Known). IsOpen (e ∷ bs) k after) (same_known old new nodes)
       (subst (λ (w : Work). IsOpen (e ∷ bs) (record { nodes = old.nodes; catalog = new.catalog; cache = new.cache }) w) (same_work before after keeps.0 keeps.1)
       (record {
         of = under_way_still e bs before.op goes o.of;
+        began = record {
+          from = o.began.from;
+          all = all_on e bs o.began.from.older goes o.began.all;
+          place = place;
+        };
         try = e ∷ o.try;
-        trying = tried.0;
+        trying = tried;
         leafless = leafless;
-        asked = subst (λ (l : List Entry). JobAsked old.nodes before.failed before.op (since_begin (e ∷ bs)) l (e ∷ o.try) new.catalog after.job) (sym tried.1)
-            (subst (λ (l : List Entry). JobAsked old.nodes before.failed before.op l o.trying.before (e ∷ o.try) new.catalog after.job) (sym since) asked);
+        asked = subst (λ (l : List Entry). JobAsked old.nodes before.failed before.op l o.began.from (e ∷ o.try) new.catalog after.job) (sym since) asked;
         shows = (subst (λ (l : List Entry). ScanShown l after.spoiled before.op after.job) (sym since) shown, reads);
         last = (kept_last, job_last);
       }))
 
+  -- the tries behind a leaf that was taken begin here
+  abbrev behind : Origin
+  behind = record { taken = since_begin (e ∷ bs); older = o.began.from.older }
+
   -- a leaf that was taken begins a new count of tries
-  pub open_anew : BeginsAnew before.op (e ∷ since_begin bs)
+  pub open_anew : BeginsAnew before.op (e ∷ since_begin bs) after.job
       → ScanShown (e ∷ since_begin bs) after.spoiled before.op after.job
       → ReadsShowBy new 0 [] before.op after.job → KeptIsLast (e ∷ bs) new
       → JobIsLast (e ∷ bs) after.job
@@ -447,23 +520,29 @@ module _ (e : Entry) (bs : List Entry) (old new : Known) (before after : Work)
       subst (λ (x : Op). IsOpen (e ∷ bs) new (record { op = x; failed = 0; spoiled = after.spoiled; job = after.job })) (sym keeps.0)
       (record {
         of = under_way_still e bs before.op goes o.of;
+        began = record {
+          from = behind;
+          all = all_on e bs o.began.from.older goes o.began.all;
+          place = now.5;
+        };
         try = [];
         trying = record {
           before = since_begin (e ∷ bs);
           split = refl;
-          have_failed = (now.0, now.1);
+          have_failed = (refl, now.0, now.1);
           unrefused = refl;
+          asks_first = refl;
           peeks = tt;
           leaf = now.2;
         };
         leafless = now.3;
-        asked = asked_any new.nodes 0 before.op (since_begin (e ∷ bs)) (since_begin (e ∷ bs)) [] new.catalog after.job (now.4, tt);
+        asked = asked_anew new.nodes before.op (since_begin (e ∷ bs)) behind new.catalog after.job (now.4 o.began.from.older);
         shows = (subst (λ (l : List Entry). ScanShown l after.spoiled before.op after.job) (sym since) shown, reads);
         last = (kept_last, job_last);
       })
     where
-      now : BeginsAnew before.op (since_begin (e ∷ bs))
-      now = subst (BeginsAnew before.op) (sym since) anew
+      now : BeginsAnew before.op (since_begin (e ∷ bs)) after.job
+      now = subst (λ (l : List Entry). BeginsAnew before.op l after.job) (sym since) anew
 
   -- a read shows the reply
   pub replied_with : (reply : Reply) (seen : Seen) → seen_at e ≡ seen ∷ [] → ReadShows bs seen before.op reply
@@ -483,52 +562,61 @@ module _ (e : Entry) (bs : List Entry) (old new : Known) (before after : Work)
       })
 
   -- the try failed by it
-  fault_as : (failed : ℕ) (cause : Option Busy) (busy : Busy)
-      → FailsBy old.nodes failed (seen_in (e ∷ o.try)) before.op cause → IfLater failed (cause ≡ Some busy)
-      → IfLater failed (MeetsFault old.nodes (seen_in (e ∷ o.try)) before.op busy)
-  fault_as zero cause busy fails is = tt
-  fault_as (suc n) None busy fails is = absurd cc
-  fault_as (suc n) (Some cause) busy fails is =
+  fault_as : (failed : ℕ) (cause : Option Busy) (busy : Busy) (IsKey : List ℕ → Type 0)
+      → ((key : List ℕ) → IsKey key → IsKeyOf before.op o.began.from.taken key)
+      → FailsBy old.nodes failed (seen_in (e ∷ o.try)) before.op IsKey cause → IfLater failed (cause ≡ Some busy)
+      → IfLater failed (MeetsFault old.nodes (seen_in (e ∷ o.try)) before.op (IsKeyOf before.op o.began.from.taken) busy)
+  fault_as zero cause busy IsKey keys fails is = tt
+  fault_as (suc n) None busy IsKey keys fails is = absurd cc
+  fault_as (suc n) (Some cause) busy IsKey keys fails is =
       let same : cause ≡ busy = some_same cause busy is in
-      subst (λ (b : Busy). MeetsFault old.nodes (seen_in (e ∷ o.try)) before.op b) same fails
+      subst (λ (b : Busy). MeetsFault old.nodes (seen_in (e ∷ o.try)) before.op (IsKeyOf before.op o.began.from.taken) b) same
+      (fault_on (seen_in (e ∷ o.try)) (seen_in (e ∷ o.try)) before.op (λ s has. has) old.nodes IsKey (IsKeyOf before.op o.began.from.taken) cause keys fails)
     where
       some_same : (a b : Busy) → Some a ≡ Some b → a ≡ b
       some_same a b e = cc
 
+  -- so the try has failed, by what it met
+  abbrev Met : ℕ → ℕ → Op → Busy → Type 0
+  Met n failed op busy =
+      (try : List Entry) × IsTrying n op o.began.from failed (since_begin (e ∷ bs)) try × HasAsked failed op o.began.from try
+      × IfLater failed (MeetsFault n (seen_in try) op (IsKeyOf op o.began.from.taken) busy)
+
   -- so it may be tried again, or given up
-  pub failed_with : (cause : Option Busy) → HasAsked before.failed before.op o.trying.before (e ∷ o.try)
-      → FailsBy old.nodes before.failed (seen_in (e ∷ o.try)) before.op cause
+  pub failed_with : (cause : Option Busy) → StandsAt before.op o.began.from.taken (retried_job after.job)
+      → HasAsked before.failed before.op o.began.from (e ∷ o.try)
+      → FailsBy old.nodes before.failed (seen_in (e ∷ o.try)) before.op (IsKeyAt before.op after.job) cause
       → ScanShown (e ∷ since_begin bs) after.spoiled after.op (retried_job after.job)
       → AreClosed (since_begin (e ∷ bs)) → AreOverNodes old.nodes before.failed (since_begin (e ∷ bs))
       → HasFailed (e ∷ bs) new after cause
-  failed_with cause asked fails shown closed over = record {
+  failed_with cause place asked fails shown closed over = record {
     of = under_way_now;
     closed = closed;
     over = subst (λ (n : ℕ). AreOverNodes n after.failed (since_begin (e ∷ bs))) (sym nodes)
         (subst (λ (n : ℕ). AreOverNodes old.nodes n (since_begin (e ∷ bs))) (sym keeps.1) over);
+    began = record {
+      from = o.began.from;
+      all = all_on e bs o.began.from.older goes o.began.all;
+      place = subst (λ (x : Op). StandsAt x o.began.from.taken (retried_job after.job)) (sym keeps.0) place;
+    };
     failed_by = λ busy is. inr (by busy is);
     scan = subst (λ (l : List Entry). ScanShown l after.spoiled after.op (retried_job after.job)) (sym since) shown;
   }
     where
+      keys : (key : List ℕ) → IsKeyAt before.op after.job key → IsKeyOf before.op o.began.from.taken key
+      keys key is = key_is before.op o.began.from.taken (retried_job after.job) key place (key_again before.op after.job key is)
+
       by_old : (busy : Busy) → IfLater before.failed (cause ≡ Some busy)
-          → (try : List Entry) × (t : IsTrying old.nodes before.op before.failed (since_begin (e ∷ bs)) try)
-          × HasAsked before.failed before.op t.before try
-          × IfLater before.failed (MeetsFault old.nodes (seen_in try) before.op busy)
-      by_old busy is = (
-        e ∷ o.try,
-        tried.0,
-        subst (λ (l : List Entry). HasAsked before.failed before.op l (e ∷ o.try)) (sym tried.1) asked,
-        fault_as before.failed cause busy fails is,
-      )
+          → Met old.nodes before.failed before.op busy
+      by_old busy is =
+          (e ∷ o.try, tried, asked, fault_as before.failed cause busy (IsKeyAt before.op after.job) keys fails is)
 
       by : (busy : Busy) → IfLater after.failed (cause ≡ Some busy)
-          → (try : List Entry) × (t : IsTrying new.nodes after.op after.failed (since_begin (e ∷ bs)) try)
-          × HasAsked after.failed after.op t.before try
-          × IfLater after.failed (MeetsFault new.nodes (seen_in try) after.op busy)
+          → Met new.nodes after.failed after.op busy
       by busy is =
-          subst (λ (n : ℕ). (try : List Entry) × (t : IsTrying n after.op after.failed (since_begin (e ∷ bs)) try) × HasAsked after.failed after.op t.before try × IfLater after.failed (MeetsFault n (seen_in try) after.op busy)) (sym nodes)
-          (subst (λ (x : Op). (try : List Entry) × (t : IsTrying old.nodes x after.failed (since_begin (e ∷ bs)) try) × HasAsked after.failed x t.before try × IfLater after.failed (MeetsFault old.nodes (seen_in try) x busy)) (sym keeps.0)
-          (subst (λ (n : ℕ). (try : List Entry) × (t : IsTrying old.nodes before.op n (since_begin (e ∷ bs)) try) × HasAsked n before.op t.before try × IfLater n (MeetsFault old.nodes (seen_in try) before.op busy)) (sym keeps.1)
+          subst (λ (n : ℕ). Met n after.failed after.op busy) (sym nodes)
+          (subst (λ (x : Op). Met old.nodes after.failed x busy) (sym keeps.0)
+          (subst (λ (n : ℕ). Met old.nodes n before.op busy) (sym keeps.1)
           (by_old busy (subst (λ (n : ℕ). IfLater n (cause ≡ Some busy)) keeps.1 is))))
 
 -- What came of it
@@ -551,11 +639,16 @@ TakenTells es known w (Taken.Fails cause) = HasFailed es known w cause
 -- a page or a count
 module _ (e : Entry) (bs : List Entry) (old new : Known) (before after : Work) (seen : Seen)
     (purpose : Purpose) (o : IsOpen bs old before) (read : IsRead before.failed e seen before.job purpose)
+    (spares : list_all (λ c. not (is_catalog_call c)) (call_in e.node e.what) ≡ true)
     (kept : KeepsKnown old new) (keeps : KeepsOp before after) (spoiled : after.spoiled ≡ before.spoiled)
     (is : IsJobOf old before) (begun : HasBegun old before.job)
     (closed : AreClosed (since_begin (e ∷ bs)))
     (over : AreOverNodes old.nodes before.failed (since_begin (e ∷ bs)))
     (own : MatchOption old.catalog ⊤ (IsKept (e ∷ bs))) (kept_last : KeptIsLast (e ∷ bs) new) where
+  -- its try asks for the catalog with no other call than its first
+  first_still : asks_at_first (calls_of (e ∷ o.try)) ≡ true
+  first_still = spares_on e o.try spares o.trying.asks_first
+
   -- the minitransactions were over so many nodes
   over_now : AreOverNodes old.nodes before.failed (e ∷ since_begin bs)
   over_now = subst (λ (l : List Entry). AreOverNodes old.nodes before.failed l) (since_on e bs read.goes) over
@@ -572,15 +665,18 @@ module _ (e : Entry) (bs : List Entry) (old new : Known) (before after : Work) (
         (subst (λ (c : Option (List CatEntry)). MatchOption c ⊤ (IsKept (e ∷ bs))) catalog own).0
 
     -- the try asked for it, where it had to
-    has_asked_now : HasAsked before.failed before.op o.trying.before (e ∷ o.try)
+    has_asked_now : HasAsked before.failed before.op o.began.from (e ∷ o.try)
     has_asked_now =
-        asked_on before.failed before.op o.trying.before o.try e
-        (asked_begun old.nodes before.failed before.op (since_begin bs) o.trying.before o.try entries before.job begun.begun
-        (subst (λ (c : Option (List CatEntry)). JobAsked old.nodes before.failed before.op (since_begin bs) o.trying.before o.try c before.job) catalog o.asked)).0
+        asked_on before.failed before.op o.began.from o.try e
+        (asked_begun old.nodes before.failed before.op (since_begin bs) o.began.from o.try entries before.job begun.begun
+        (subst (λ (c : Option (List CatEntry)). JobAsked old.nodes before.failed before.op (since_begin bs) o.began.from o.try c before.job) catalog o.asked)).0
 
     -- it is kept still
     new_catalog : new.catalog ≡ Some entries
     new_catalog = kept.1 ∙ catalog
+
+    some_now : new.catalog ≢ None
+    some_now none = begun.kept (sym kept.1 ∙ none)
 
     -- a catalog that was none was read before, or not
     spoiled_as : (job : Job) → ScanShown (e ∷ since_begin bs) before.spoiled before.op job
@@ -591,30 +687,33 @@ module _ (e : Entry) (bs : List Entry) (old new : Known) (before after : Work) (
     -- by what its bytes tell of the job
     job_tells : (taken : Taken)
         → ((cause : Option Busy) → taken ≡ Taken.Fails cause → retried_job after.job ≡ retried_job before.job)
+        → (taken ≡ Taken.GoesOn → Began before.op o.began.from.taken after.job)
         → JobTold old.nodes before.failed before.op entries e (since_begin bs) o.try before.spoiled after.job taken
         → (GoesFurther taken → JobIsLast (e ∷ bs) after.job) → TakenTells (e ∷ bs) new after taken
-    job_tells Taken.GoesOn retried told job_last = (
-      open_with e bs old new before after o read.goes read.good read.peeks kept.0 keeps
-          (asked_any old.nodes before.failed before.op (e ∷ since_begin bs) o.trying.before (e ∷ o.try) new.catalog after.job (has_asked_now, over_now))
+    job_tells Taken.GoesOn retried stands told job_last = (
+      open_with e bs old new before after o read.goes read.good read.peeks first_still kept.0 keeps (stands refl).0
+          (asked_any old.nodes before.failed before.op (e ∷ since_begin bs) o.began.from (e ∷ o.try) new.catalog after.job (stands refl).1 some_now (has_asked_now, over_now))
           (spoiled_as after.job told.1)
           (subst (λ (c : Option (List CatEntry)). MatchOption c (IsStartable before.op after.job) (λ x. ReadsShow before.failed (seen_in (e ∷ o.try)) before.op x after.job)) (sym new_catalog) told.0)
           told.2 kept_last (job_last tt),
       closed,
     )
-    job_tells Taken.Leaf retried told job_last = (
-      open_anew e bs old new before after o read.goes read.good read.peeks kept.0 keeps told.2
+    job_tells Taken.Leaf retried stands told job_last = (
+      open_anew e bs old new before after o read.goes read.good read.peeks first_still kept.0 keeps told.2
           (spoiled_as after.job told.1)
           (subst (λ (c : Option (List CatEntry)). MatchOption c (IsStartable before.op after.job) (λ x. ReadsShow 0 [] before.op x after.job)) (sym new_catalog) told.0)
           kept_last (job_last tt),
       closed,
     )
-    job_tells (Taken.Replies reply) retried told job_last = (
+    job_tells (Taken.Replies reply) retried stands told job_last = (
       subst (λ (x : Op). IsUnderWay (e ∷ bs) x) (sym keeps.0) (under_way_still e bs before.op read.goes o.of),
-      replied_with e bs old new before after o read.goes read.good read.peeks kept.0 keeps reply told.0 told.1
+      replied_with e bs old new before after o read.goes read.good read.peeks first_still kept.0 keeps reply told.0 told.1
           (told.2 bs shown_catalog),
     )
-    job_tells (Taken.Fails cause) retried told job_last =
-        failed_with e bs old new before after o read.goes read.good read.peeks kept.0 keeps cause has_asked_now told
+    job_tells (Taken.Fails cause) retried stands told job_last =
+        failed_with e bs old new before after o read.goes read.good read.peeks first_still kept.0 keeps cause
+        (subst (StandsAt before.op o.began.from.taken) (sym (retried cause refl)) (stands_again before.op o.began.from.taken before.job o.began.place))
+        has_asked_now told
         (retried_scan_as old (e ∷ since_begin bs) before after is keeps.0 spoiled (retried cause refl)
         (scan_begun_on e (since_begin bs) before.spoiled before.op before.job begun.begun o.shows.0))
         closed over
@@ -636,6 +735,8 @@ module _ (e : Entry) (bs : List Entry) (old new : Known) (before after : Work) (
   page_comes addr bytes taken of_page for_page asks takes job_last =
       job_tells entries_kept.0 entries_kept.1 taken
       (λ cause fails. (retried_after_page old addr bytes before after cause (subst (TakesPageBytes old addr bytes before after) fails takes)).1)
+      (λ goes. page_stands old (is_later before.failed) addr bytes before.op o.began.from.taken before.job after.job
+      (subst (JobTakes old (is_later before.failed) addr bytes before.op before.job after.job) goes takes.1) o.began.place)
       (page_told old before.failed entries_kept.0 entries_kept.1 e (since_begin bs) o.try before.spoiled addr bytes before.op before.job after.job taken
       (subst (λ (p : Purpose). CameAs before.failed e (seen_page addr bytes) before.job p) for_page
       (subst (λ (s : Seen). CameAs before.failed e s before.job purpose) of_page read.came))
@@ -648,6 +749,8 @@ module _ (e : Entry) (bs : List Entry) (old new : Known) (before after : Work) (
   count_comes bytes taken of_count for_count asks takes job_last =
       job_tells entries_kept.0 entries_kept.1 taken
       (λ cause fails. (retried_after_count bytes before after taken takes).1)
+      (λ goes. count_stands before.op bytes o.began.from.taken before.job after.job
+      (subst (JobCounts bytes before.job after.job) goes takes.1) o.began.place)
       (count_told old before.failed entries_kept.0 e (since_begin bs) o.try before.spoiled bytes before.op before.job after.job taken
       (subst (λ (p : Purpose). CameAs before.failed e (seen_count (counts_of before.job) bytes) before.job p) for_count
       (subst (λ (s : Seen). CameAs before.failed e s before.job purpose) of_count read.came))
@@ -672,7 +775,7 @@ starts_still bytes known before after cause starts keeps (inr read) =
 module _ (e : Entry) (bs : List Entry) (old new : Known) (before after : Work) (bytes : List ℕ)
     (read : IsReadOf e catalog_place bytes) (o : IsOpen bs old before) (nodes : new.nodes ≡ old.nodes)
     (keeps : KeepsOp before after) (starts : IsStartable before.op before.job)
-    (closed : AreClosed (since_begin (e ∷ bs)))
+    (to_ask : IsToAsk old.catalog before.job) (closed : AreClosed (since_begin (e ∷ bs)))
     (over : AreOverNodes old.nodes before.failed (since_begin (e ∷ bs)))
     (kept_last : KeptIsLast (e ∷ bs) new) where
   -- the entry read the catalog
@@ -684,10 +787,16 @@ module _ (e : Entry) (bs : List Entry) (old new : Known) (before after : Work) (
   seen_now = read_at e catalog_place bytes read.0 read.2
 
   -- so the try has asked for it
-  asked_now : HasAsked before.failed before.op o.trying.before (e ∷ o.try)
+  asked_now : HasAsked before.failed before.op o.began.from (e ∷ o.try)
   asked_now =
-      has_asked before.failed before.op o.trying.before (e ∷ o.try)
+      has_asked before.failed before.op o.began.from (e ∷ o.try)
       (asks_now e o.try read.0 (Say.Done (bytes ∷ [])) read.2)
+
+  -- with its first call
+  first_now : asks_at_first (calls_of (e ∷ o.try)) ≡ true
+  first_now =
+      first_on e o.try _ read.2
+      (sent_none old.nodes before.failed before.op (since_begin bs) o.began.from o.try old.catalog before.job to_ask o.asked)
 
   -- the minitransactions were over so many nodes
   over_since : AreOverNodes old.nodes before.failed (e ∷ since_begin bs)
@@ -698,9 +807,10 @@ module _ (e : Entry) (bs : List Entry) (old new : Known) (before after : Work) (
       → (GoesFurther taken → JobIsLast (e ∷ bs) after.job) → TakenTells (e ∷ bs) new after taken
   catalog_comes Taken.GoesOn takes job_last =
       let shows : JobShows new (e ∷ since_begin bs) (e ∷ o.try) after =
-      goes_on_shows bytes e seen_now new before after (since_begin bs) o.try starts keeps takes o.shows.0 in (
-        open_with e bs old new before after o r.goes r.good r.peeks nodes keeps
-            (asked_any old.nodes before.failed before.op (e ∷ since_begin bs) o.trying.before (e ∷ o.try) new.catalog after.job (asked_now, over_since))
+      goes_on_shows bytes e seen_now new before after (since_begin bs) o.try starts keeps takes o.shows.0 in
+      let stands = goes_on_stands bytes e seen_now new before after (since_begin bs) o.try o.began.from.taken starts takes o.began.place in (
+        open_with e bs old new before after o r.goes r.good r.peeks first_now nodes keeps stands.0.0
+            (asked_any old.nodes before.failed before.op (e ∷ since_begin bs) o.began.from (e ∷ o.try) new.catalog after.job stands.0.1 stands.1 (asked_now, over_since))
             (subst (λ (x : Op). ScanShown (e ∷ since_begin bs) after.spoiled x after.job) keeps.0 shows.0)
             (subst (λ (x : Op). ReadsShowBy new before.failed (seen_in (e ∷ o.try)) x after.job) keeps.0
             (subst (λ (n : ℕ). ReadsShowBy new n (seen_in (e ∷ o.try)) after.op after.job) keeps.1 shows.1))
@@ -711,22 +821,24 @@ module _ (e : Entry) (bs : List Entry) (old new : Known) (before after : Work) (
   catalog_comes Taken.Leaf (inr read) job_last = absurd read.3
   catalog_comes (Taken.Replies reply) takes job_last = (
     subst (λ (x : Op). IsUnderWay (e ∷ bs) x) (sym keeps.0) (under_way_still e bs before.op r.goes o.of),
-    replied_with e bs old new before after o r.goes r.good r.peeks nodes keeps reply (catalog_seen bytes) seen_now
+    replied_with e bs old new before after o r.goes r.good r.peeks first_now nodes keeps reply (catalog_seen bytes) seen_now
         (inr (replies_shows bytes e seen_now new before after (since_begin bs) o.try reply takes)),
   )
   catalog_comes (Taken.Fails cause) takes job_last =
-      failed_with e bs old new before after o r.goes r.good r.peeks nodes keeps cause asked_now (fails cause takes)
+      failed_with e bs old new before after o r.goes r.good r.peeks first_now nodes keeps cause
+      (subst (λ (j : Job). StandsAt before.op o.began.from.taken (retried_job j)) (sym (fails_same bytes e seen_now new before after (since_begin bs) o.try cause takes)) (stands_again before.op o.began.from.taken before.job o.began.place))
+      asked_now (fails cause takes)
       (retried_scan new (e ∷ since_begin bs) after
       (starts_right new after (starts_still bytes new before after cause starts keeps takes))
       (fails_scan bytes e seen_now new before after (since_begin bs) o.try cause keeps takes o.shows.0))
       closed over
     where
       fails : (c : Option Busy) → TakesCatalog bytes before new after (Taken.Fails c)
-          → FailsBy old.nodes before.failed (seen_in (e ∷ o.try)) before.op c
+          → FailsBy old.nodes before.failed (seen_in (e ∷ o.try)) before.op (IsKeyAt before.op after.job) c
       fails None takes = tt
       fails (Some busy) takes =
-          later_of before.failed (MeetsFault old.nodes (seen_in (e ∷ o.try)) before.op busy)
-          (fails_shows bytes e seen_now new before after (since_begin bs) o.try old.nodes before.op busy takes)
+          later_of before.failed (MeetsFault old.nodes (seen_in (e ∷ o.try)) before.op (IsKeyAt before.op after.job) busy)
+          (fails_shows bytes e seen_now new before after (since_begin bs) o.try old.nodes before.op (IsKeyAt before.op after.job) busy takes)
 
 -- What was taken, for whatever it was read
 
@@ -768,6 +880,12 @@ take_tells es old new before after purpose bytes taken r waits closed over own c
     job_last (Taken.Replies reply) came goes = absurd goes
     job_last (Taken.Fails cause) came goes = absurd goes
 
+    as_read : (p : Purpose)
+        → IsReadOf r.e r.place bytes ⊎ (IsPeekOf r.e r.place bytes × (before.failed ≡ 0) × MayPeekFor before.job p)
+        → IsReadOf r.e r.place bytes ⊎ IsPeekOf r.e r.place bytes
+    as_read p (inl read) = inl read
+    as_read p (inr peeked) = inr peeked.0
+
     from : (p : Purpose) → WaitsFor old before p → IsPlaceFor before.job p r.place
         → IsReadOf r.e r.place bytes ⊎ (IsPeekOf r.e r.place bytes × (before.failed ≡ 0) × MayPeekFor before.job p)
         → AreClosed (since_begin (r.e ∷ r.before))
@@ -777,16 +895,18 @@ take_tells es old new before after purpose bytes taken r waits closed over own c
         → TakenTells (r.e ∷ r.before) new after taken
     from reads_for.Catalog waits is (inl read) closed over own came kept jobs =
         catalog_comes r.e r.before old new before after bytes (subst (λ (p : Place). IsReadOf r.e p bytes) is read)
-        r.open_before came.0 came.1 waits.1 closed over kept taken came.2 jobs
+        r.open_before came.0 came.1 waits.1.0 waits.1.1 closed over kept taken came.2 jobs
     from reads_for.Catalog waits is (inr peeked) closed over own came kept jobs = absurd peeked.2
     from (reads_for.Page addr) waits is read closed over own came kept jobs =
         page_comes r.e r.before old new before after (record { place = r.place; bytes = bytes }) (reads_for.Page addr) r.open_before
-        (is_read before.failed r.e r.place bytes before.job (reads_for.Page addr) read) came.0 came.1 came.2.0 waits.0
+        (is_read before.failed r.e r.place bytes before.job (reads_for.Page addr) read)
+        (read_spares r.e r.place bytes (page_is_apart r.place addr is) (as_read (reads_for.Page addr) read)) came.0 came.1 came.2.0 waits.0
         (page_begun old before.op before.job addr waits.0 waits.1.0) closed over own kept addr bytes taken
         (ap (λ (p : Place). record { place = p; bytes = bytes }) is) refl waits.1.0 came.2 jobs
     from reads_for.Count waits is read closed over own came kept jobs =
         count_comes r.e r.before old new before after (record { place = r.place; bytes = bytes }) reads_for.Count r.open_before
-        (is_read before.failed r.e r.place bytes before.job reads_for.Count read) (keeps_same old new came.0) came.1 came.2.0 waits.0
+        (is_read before.failed r.e r.place bytes before.job reads_for.Count read)
+        (read_spares r.e r.place bytes (count_is_apart before.job r.place is) (as_read reads_for.Count read)) (keeps_same old new came.0) came.1 came.2.0 waits.0
         (count_begun old before.op before.job waits.0 waits.1.0) closed over own kept bytes taken
         (ap (λ (p : Place). record { place = p; bytes = bytes }) (count_at before.op before.job r.place waits.1.0 is)) refl waits.1.0 came.2 jobs
     from (reads_for.Plan reply) waits is read closed over own came kept jobs = absurd is
@@ -822,7 +942,7 @@ pub came_startable : (old new : Known) (before after : Work) (purpose : Purpose)
     → CameOf old new before after purpose bytes (Taken.Fails cause)
     → IsStartable after.op (retried_job after.job)
 came_startable old new before after reads_for.Catalog bytes cause waits came =
-    retry_after_catalog new bytes before after cause waits.1 came.1 came.2
+    retry_after_catalog new bytes before after cause waits.1.0 came.1 came.2
 came_startable old new before after (reads_for.Page addr) bytes cause waits came =
     retry_after_page old addr bytes before after (Taken.Fails cause) came.1 came.2
 came_startable old new before after reads_for.Count bytes cause waits came =

@@ -21,16 +21,16 @@ use Rattle.mn_page.specs.declared.entry.CatEntry.{CatEntry}
 use Rattle.mn_runs.specs.declared.entry.Entry.{Entry}
 use Rattle.mn_runs.specs.Calls.{Call, call_in, calls_of}
 use Rattle.mn_runs.specs.Seen.{Seen, seen_by, seen_in}
-use Rattle.mn_law.specs.Answers.{BeginsAfter, BringsLeaf, BringsNone, EndsWithLeaf, FailedTries}
-use Rattle.mn_law.specs.Answers.{FailsAs, IsWhole, LastTry, LeafIsNewest, MeetsFault}
+use Rattle.mn_law.specs.Answers.{BeginsAfter, BringsLeaf, BringsNone, FailedTries}
+use Rattle.mn_law.specs.Answers.{FailsAs, IsKeyOf, IsWhole, LastTry, LeafIsNewest, MayBeKept, MeetsFault}
 use Rattle.mn_law.specs.Answers.{Reached, ReachesAddr}
 use Rattle.mn_law.specs.Answers.Reached.{by_root, by_child}
 use Rattle.mn_law.proofs.Sees.{seen_in-append}
-use Rattle.mn_law.specs.Answers.{RefusedAs, asks_for_catalog, ends_refused, is_any_decide}
-use Rattle.mn_law.specs.Answers.{is_one_try, is_peek, is_refusal, none_refused, reads_anew}
-use Rattle.mn_proxy.specs.Tries.{FirstFailed, HasAsked, HasNoLeaf, HaveFailed, IsTrying}
+use Rattle.mn_law.specs.Answers.{RefusedAs, asks_at_first, asks_for_catalog, is_any_decide}
+use Rattle.mn_law.specs.Answers.{is_catalog_call, is_one_try, is_peek, is_refusal, none_refused, reads_anew}
+use Rattle.mn_proxy.specs.Tries.{FirstFailed, HasAsked, HasNoLeaf, HasSentNone, HaveFailed, IsTrying, Origin}
 use Rattle.mn_proxy.specs.Tries.{MayPeek, ShowsCause, WasRefused, peeks_at_nothing}
-use Rattle.mn_work.specs.Walks.{IfLater}
+use Rattle.mn_work.specs.Walks.{IfLater, MeetsFor}
 
 -- Lists
 
@@ -57,13 +57,53 @@ peeks_on e es one rest =
     list_all-append (λ (c : Call). not (is_peek c.request)) (call_in e.node e.what) (calls_of es)
     ∙ both (list_all (λ (c : Call). not (is_peek c.request)) (call_in e.node e.what)) (peeks_at_nothing es) one rest
 
-decides_on : (e : Entry) (es : List Entry)
+pub decides_on : (e : Entry) (es : List Entry)
     → list_all (λ c. is_any_decide c.request) (call_in e.node e.what) ≡ true
     → list_all (λ c. is_any_decide c.request) (calls_of es) ≡ true
     → list_all (λ c. is_any_decide c.request) (calls_of (e ∷ es)) ≡ true
 decides_on e es one rest =
     list_all-append (λ (c : Call). is_any_decide c.request) (call_in e.node e.what) (calls_of es)
     ∙ both (list_all (λ (c : Call). is_any_decide c.request) (call_in e.node e.what)) (list_all (λ (c : Call). is_any_decide c.request) (calls_of es)) one rest
+
+-- either is so
+or_left : (a b : Bool) → a ≡ true → (a || b) ≡ true
+or_left true b e = refl
+or_left false b e = absurd cc
+
+pub or_right : (a b : Bool) → b ≡ true → (a || b) ≡ true
+or_right true b e = refl
+or_right false b e = e
+
+-- calls that don't ask for the catalog leave the first one the first
+spare_calls : (xs cs : List Call) → list_all (λ c. not (is_catalog_call c)) xs ≡ true
+    → asks_at_first cs ≡ true → asks_at_first (xs ++ cs) ≡ true
+spare_calls [] cs spared first = first
+spare_calls (x ∷ xs) cs spared first =
+    let parts = both_parts (not (is_catalog_call x)) (list_all (λ (c : Call). not (is_catalog_call c)) xs) spared in
+    both (not (is_catalog_call x) || list_all (λ (d : Call). is_any_decide d.request) (xs ++ cs)) (asks_at_first (xs ++ cs))
+    (or_left (not (is_catalog_call x)) (list_all (λ (d : Call). is_any_decide d.request) (xs ++ cs)) parts.0) (spare_calls xs cs parts.1 first)
+
+pub spares_on : (e : Entry) (es : List Entry)
+    → list_all (λ c. not (is_catalog_call c)) (call_in e.node e.what) ≡ true
+    → asks_at_first (calls_of es) ≡ true → asks_at_first (calls_of (e ∷ es)) ≡ true
+spares_on e es one rest = spare_calls (call_in e.node e.what) (calls_of es) one rest
+
+-- decisions ask for nothing
+none_asked : (cs : List Call) → list_all (λ c. is_any_decide c.request) cs ≡ true
+    → asks_at_first cs ≡ true
+none_asked [] sent = refl
+none_asked (c ∷ cs) sent =
+    let parts = both_parts (is_any_decide c.request) (list_all (λ (d : Call). is_any_decide d.request) cs) sent in
+    both (not (is_catalog_call c) || list_all (λ (d : Call). is_any_decide d.request) cs) (asks_at_first cs)
+    (or_right (not (is_catalog_call c)) (list_all (λ (d : Call). is_any_decide d.request) cs) parts.1) (none_asked cs parts.1)
+
+-- behind them any call is the first
+pub first_on : (e : Entry) (es : List Entry) (call : Call) → call_in e.node e.what ≡ call ∷ []
+    → HasSentNone es → asks_at_first (calls_of (e ∷ es)) ≡ true
+first_on e es call is sent =
+    ap (λ cs. asks_at_first (cs ++ calls_of es)) is
+    ∙ both (not (is_catalog_call call) || list_all (λ (d : Call). is_any_decide d.request) (calls_of es)) (asks_at_first (calls_of es))
+    (or_right (not (is_catalog_call call)) (list_all (λ (d : Call). is_any_decide d.request) (calls_of es)) sent) (none_asked (calls_of es) sent)
 
 -- the entry peeks only where it may
 abbrev pub NoPeek : ℕ → Entry → Type 0
@@ -83,27 +123,29 @@ newest_on Versions e es none = tt
 
 -- The try goes on
 
-pub trying_on : (nodes : ℕ) (op : Op) (failed : ℕ) (now try : List Entry) (e : Entry)
-    → IsTrying nodes op failed now try → HasNoLeaf op try
+pub trying_on : (nodes : ℕ) (op : Op) (from : Origin) (failed : ℕ) (now try : List Entry) (e : Entry)
+    → IsTrying nodes op from failed now try → HasNoLeaf op try
     → list_all (λ c. not (is_refusal c.reply)) (call_in e.node e.what) ≡ true → NoPeek failed e
-    → IsTrying nodes op failed (e ∷ now) (e ∷ try)
-trying_on nodes op failed now try e t none good peek = record {
+    → asks_at_first (calls_of (e ∷ try)) ≡ true
+    → IsTrying nodes op from failed (e ∷ now) (e ∷ try)
+trying_on nodes op from failed now try e t none good peek first = record {
   before = t.before;
   split = ap (λ l. e ∷ l) t.split;
   have_failed = t.have_failed;
   unrefused = unrefused_on e try good t.unrefused;
+  asks_first = first;
   peeks = may_peek_on failed e try peek t.peeks;
   leaf = newest_on op e try none;
 }
 
 -- it is refused
-pub refused_on : (nodes : ℕ) (op : Op) (failed : ℕ) (now try : List Entry) (e : Entry) (call : Call)
-    (busy : Busy) (t : IsTrying nodes op failed now try) → HasNoLeaf op try
+pub refused_on : (nodes : ℕ) (op : Op) (from : Origin) (failed : ℕ) (now try : List Entry) (e : Entry)
+    (call : Call) (busy : Busy) (t : IsTrying nodes op from failed now try) → HasNoLeaf op try
     → call_in e.node e.what ≡ call ∷ [] → is_refusal call.reply ≡ true → NoPeek failed e
-    → HasAsked failed op t.before (e ∷ try)
+    → asks_at_first (calls_of (e ∷ try)) ≡ true → HasAsked failed op from (e ∷ try)
     → IfLater failed (RefusedAs (seen_in try) call.node call.request call.reply busy)
-    → WasRefused nodes op failed (e ∷ now) busy
-refused_on nodes op failed now try e call busy t none is refusal peek asked told = record {
+    → WasRefused nodes op from failed (e ∷ now) busy
+refused_on nodes op from failed now try e call busy t none is refusal peek first asked told = record {
   rest = [];
   last = e ∷ try;
   before = t.before;
@@ -111,7 +153,7 @@ refused_on nodes op failed now try e call busy t none is refusal peek asked told
   over = refl;
   quiet = refl;
   have_failed = t.have_failed;
-  single = t.unrefused;
+  single = both (none_refused try) (asks_at_first (calls_of (e ∷ try))) t.unrefused first;
   peeks = may_peek_on failed e try peek t.peeks;
   asked = asked;
   leaf = newest_on op e try none;
@@ -120,17 +162,17 @@ refused_on nodes op failed now try e call busy t none is refusal peek asked told
 }
   where
     by : (n : ℕ) → IfLater n (RefusedAs (seen_in try) call.node call.request call.reply busy)
-        → ShowsCause nodes op n (e ∷ try) busy
+        → ShowsCause nodes op from.taken n (e ∷ try) busy
     by zero told = tt
     by (suc n) told = inl (call, is, told)
 
 -- decisions are sent, or an entry is no call
-pub decided_on : (nodes : ℕ) (op : Op) (failed : ℕ) (now : List Entry) (e : Entry) (busy : Busy)
-    → WasRefused nodes op failed now busy
+pub decided_on : (nodes : ℕ) (op : Op) (from : Origin) (failed : ℕ) (now : List Entry) (e : Entry)
+    (busy : Busy) → WasRefused nodes op from failed now busy
     → list_all (λ c. is_any_decide c.request) (call_in e.node e.what) ≡ true
     → list_all (λ c. not (is_refusal c.reply)) (call_in e.node e.what) ≡ true
-    → WasRefused nodes op failed (e ∷ now) busy
-decided_on nodes op failed now e busy r decides good = record {
+    → WasRefused nodes op from failed (e ∷ now) busy
+decided_on nodes op from failed now e busy r decides good = record {
   rest = e ∷ r.rest;
   last = r.last;
   before = r.before;
@@ -153,28 +195,27 @@ anew : (try : List Entry) → asks_for_catalog try ≡ true → peeks_at_nothing
 anew try asked peeks = both (asks_for_catalog try) (peeks_at_nothing try) asked peeks
 
 -- one more has failed
-have_failed_on : (nodes : ℕ) (op : Op) (failed : ℕ) (last before : List Entry) (busy : Busy)
-    → HaveFailed nodes op failed before → is_one_try last ≡ true → MayPeek failed last
-    → HasAsked failed op before last → LeafIsNewest op last → ShowsCause nodes op failed last busy
-    → HaveFailed nodes op (suc failed) (last ++ before)
-have_failed_on nodes op zero last before busy h single peeks asked leaf cause = record {
+have_failed_on : (nodes : ℕ) (op : Op) (from : Origin) (failed : ℕ) (last before : List Entry)
+    (busy : Busy) → HaveFailed nodes op from failed before → is_one_try last ≡ true
+    → MayPeek failed last → HasAsked failed op from last → LeafIsNewest op last
+    → ShowsCause nodes op from.taken failed last busy
+    → HaveFailed nodes op from (suc failed) (last ++ before)
+have_failed_on nodes op from zero last before busy h single peeks asked leaf cause = record {
   tries = [];
   first = last;
-  taken = before;
-  split = refl;
+  split = ap (λ l. last ++ l) h.0;
   many = refl;
   later_failed = record { causes = tt; single = refl; anew = refl; leaves = tt };
   single = single;
   leaf = leaf;
   kept = asked;
-  whole = h.0;
-  took = h.1;
+  whole = h.1;
+  took = h.2;
 }
-have_failed_on nodes op (suc n) last before busy h single peeks asked leaf cause = record {
+have_failed_on nodes op from (suc n) last before busy h single peeks asked leaf cause = record {
   tries = last ∷ h.tries;
   first = h.first;
-  taken = h.taken;
-  split = ap (λ l. last ++ l) h.split ∙ to_left last (flat_map (λ try. try) h.tries) h.first h.taken;
+  split = ap (λ l. last ++ l) h.split ∙ to_left last (flat_map (λ try. try) h.tries) h.first from.taken;
   many = ap suc h.many;
   later_failed = record {
     causes = ((busy, cause), h.later_failed.causes);
@@ -220,6 +261,9 @@ seen_none (c ∷ cs) all =
     by Ask.List e = refl
     by (Ask.Peek s k) e = refl
 
+pub decided_seen : (try : List Entry) → HasSentNone try → seen_in try ≡ []
+decided_seen try sent = seen_none (calls_of try) sent
+
 no_leaf : (e : Entry) → list_all (λ c. is_any_decide c.request) (call_in e.node e.what) ≡ true
     → BringsLeaf e → ⊥
 no_leaf e decides brings =
@@ -253,81 +297,93 @@ newest_of_none (Scan name low high limit) es none = brings_none es none
 newest_of_none Versions es none = tt
 
 -- after a refusal the next try goes on, with the decisions that were sent
-pub retries_refused : (nodes : ℕ) (op : Op) (failed : ℕ) (now : List Entry) (busy : Busy)
-    (r : WasRefused nodes op failed now busy)
-    → IsTrying nodes op (suc failed) now r.rest × HasNoLeaf op r.rest
-retries_refused nodes op failed now busy r = (
+pub retries_refused : (nodes : ℕ) (op : Op) (from : Origin) (failed : ℕ) (now : List Entry)
+    (busy : Busy) (r : WasRefused nodes op from failed now busy)
+    → IsTrying nodes op from (suc failed) now r.rest × HasNoLeaf op r.rest × HasSentNone r.rest
+retries_refused nodes op from failed now busy r = (
   record {
     before = r.last ++ r.before;
     split = r.split ∙ append_assoc r.rest r.last r.before;
-    have_failed = have_failed_on nodes op failed r.last r.before busy r.have_failed r.single r.peeks r.asked r.leaf r.cause;
+    have_failed = have_failed_on nodes op from failed r.last r.before busy r.have_failed r.single r.peeks r.asked r.leaf r.cause;
     unrefused = r.quiet;
+    asks_first = none_asked (calls_of r.rest) r.over;
     peeks = no_peeks (calls_of r.rest) r.over;
     leaf = newest_of_none op r.rest (no_leaves r.rest r.over);
   },
   has_no_leaf op r.rest (no_leaves r.rest r.over),
+  r.over,
 )
 
-one_of_none : (try : List Entry) → none_refused try ≡ true → is_one_try try ≡ true
-one_of_none [] none = refl
-one_of_none (e ∷ es) none =
+one_of_none : (try : List Entry) → none_refused try ≡ true → asks_at_first (calls_of try) ≡ true
+    → is_one_try try ≡ true
+one_of_none [] none first = refl
+one_of_none (e ∷ es) none first =
+    both (none_refused es) (asks_at_first (calls_of (e ∷ es)))
     (both_parts (list_all (λ (c : Call). not (is_refusal c.reply)) (call_in e.node e.what)) (none_refused es)
     (sym (list_all-append (λ (c : Call). not (is_refusal c.reply)) (call_in e.node e.what) (calls_of es)) ∙ none)).1
+    first
 
 none_seen : (seen : Seen) → Contains {X = Seen} [] seen → ⊥
 none_seen seen has = let low = has.1 in omega arith
 
 -- where nothing was read no fault was met
-fault_read : (nodes : ℕ) (op : Op) (busy : Busy) → MeetsFault nodes [] op busy → ⊥
-fault_read nodes op (Path addr seq) (inl bad) = none_seen bad.0 bad.4
-fault_read nodes op (Path addr seq) (inr (inl off)) = none_seen off.3.0 off.3.1
-fault_read nodes op (Path addr seq) (inr (inr place)) = none_seen place.0 place.1
-fault_read nodes op (Lock node start len holder) fault = absurd fault
-fault_read nodes op (Moved node start expected found) fault = absurd fault
-fault_read nodes op (Forced tid) fault = absurd fault
+fault_read : (nodes : ℕ) (op : Op) (IsKey : List ℕ → Type 0) (busy : Busy)
+    → MeetsFault nodes [] op IsKey busy → ⊥
+fault_read nodes op IsKey (Path addr seq) (inl bad) = none_seen bad.0 bad.4
+fault_read nodes op IsKey (Path addr seq) (inr (inl off)) = none_seen off.3.0 off.3.1
+fault_read nodes op IsKey (Path addr seq) (inr (inr place)) = none_seen place.0 place.1
+fault_read nodes op IsKey (Lock node start len holder) fault = absurd fault
+fault_read nodes op IsKey (Moved node start expected found) fault = absurd fault
+fault_read nodes op IsKey (Forced tid) fault = absurd fault
 
-fails_by_fault : (nodes : ℕ) (op : Op) (try : List Entry) (busy : Busy)
-    → MeetsFault nodes (seen_in try) op busy → FailsAs nodes op try busy
-fails_by_fault nodes op [] busy fault = fault_read nodes op busy fault
-fails_by_fault nodes op (e ∷ es) busy fault = inr fault
+fails_by_fault : (nodes : ℕ) (op : Op) (taken try : List Entry) (busy : Busy)
+    → MeetsFault nodes (seen_in try) op (IsKeyOf op taken) busy → FailsAs nodes op taken try busy
+fails_by_fault nodes op taken [] busy fault = fault_read nodes op (IsKeyOf op taken) busy fault
+fails_by_fault nodes op taken (e ∷ es) busy fault = inr fault
 
-shows_fault : (nodes : ℕ) (op : Op) (failed : ℕ) (try : List Entry) (busy : Busy)
-    → IfLater failed (MeetsFault nodes (seen_in try) op busy) → ShowsCause nodes op failed try busy
-shows_fault nodes op zero try busy fault = tt
-shows_fault nodes op (suc n) try busy fault = fails_by_fault nodes op try busy fault
+shows_fault : (nodes : ℕ) (op : Op) (taken : List Entry) (failed : ℕ) (try : List Entry) (busy : Busy)
+    → IfLater failed (MeetsFault nodes (seen_in try) op (IsKeyOf op taken) busy)
+    → ShowsCause nodes op taken failed try busy
+shows_fault nodes op taken zero try busy fault = tt
+shows_fault nodes op taken (suc n) try busy fault = fails_by_fault nodes op taken try busy fault
 
 -- after a fault the next try has no entry yet; a first one may have failed by what was kept
-pub retries_fault : (nodes : ℕ) (op : Op) (failed : ℕ) (now try : List Entry) (busy : Busy)
-    (t : IsTrying nodes op failed now try) → HasAsked failed op t.before try
-    → IfLater failed (MeetsFault nodes (seen_in try) op busy)
-    → IsTrying nodes op (suc failed) now [] × HasNoLeaf op []
-retries_fault nodes op failed now try busy t asked fault = (
+pub retries_fault : (nodes : ℕ) (op : Op) (from : Origin) (failed : ℕ) (now try : List Entry)
+    (busy : Busy) (t : IsTrying nodes op from failed now try) → HasAsked failed op from try
+    → IfLater failed (MeetsFault nodes (seen_in try) op (IsKeyOf op from.taken) busy)
+    → IsTrying nodes op from (suc failed) now [] × HasNoLeaf op [] × HasSentNone []
+retries_fault nodes op from failed now try busy t asked fault = (
   record {
     before = now;
     split = refl;
-    have_failed = subst (HaveFailed nodes op (suc failed)) (sym t.split)
-        (have_failed_on nodes op failed try t.before busy t.have_failed (one_of_none try t.unrefused) t.peeks asked t.leaf (shows_fault nodes op failed try busy fault));
+    have_failed = subst (HaveFailed nodes op from (suc failed)) (sym t.split)
+        (have_failed_on nodes op from failed try t.before busy t.have_failed (one_of_none try t.unrefused t.asks_first) t.peeks asked t.leaf (shows_fault nodes op from.taken failed try busy fault));
     unrefused = refl;
+    asks_first = refl;
     peeks = refl;
     leaf = newest_of_none op [] tt;
   },
   has_no_leaf op [] tt,
+  refl,
 )
 
 -- The last try
 
-eight : (nodes : ℕ) (op : Op) (now rest last before : List Entry) (busy : Busy)
+eight : (nodes : ℕ) (op : Op) (from : Origin) (es now rest last before : List Entry) (busy : Busy)
+    → es ≡ now ++ from.older
     → now ≡ rest ++ last ++ before → list_all (λ c. is_any_decide c.request) (calls_of rest) ≡ true
-    → HaveFailed nodes op 7 before → is_one_try last ≡ true → MayPeek 7 last
-    → HasAsked 7 op before last → LeafIsNewest op last → FailsAs nodes op last busy
-    → FailedTries nodes op now busy
-eight nodes op now rest last before busy split over h single peeks asked leaf fails = record {
+    → HaveFailed nodes op from 7 before → is_one_try last ≡ true → MayPeek 7 last
+    → HasAsked 7 op from last → LeafIsNewest op last → FailsAs nodes op from.taken last busy
+    → FailedTries nodes op es now busy
+eight nodes op from es now rest last before busy all split over h single peeks asked leaf fails = record {
+  older = from.older;
+  all = all;
   rest = rest;
   last = last;
   middle = h.tries;
   first = h.first;
-  taken = h.taken;
-  split = split ∙ ap (λ (l : List Entry). rest ++ last ++ l) h.split ∙ to_left (rest ++ last) (flat_map (λ try. try) h.tries) h.first h.taken;
+  taken = from.taken;
+  split = split ∙ ap (λ (l : List Entry). rest ++ last ++ l) h.split ∙ to_left (rest ++ last) (flat_map (λ try. try) h.tries) h.first from.taken;
   over = over;
   six = h.many;
   last_fails = fails;
@@ -342,17 +398,19 @@ eight nodes op now rest last before busy split over h single peeks asked leaf fa
 }
 
 -- the eighth was refused, or met a fault
-pub gives_up_refused : (nodes : ℕ) (op : Op) (now : List Entry) (busy : Busy)
-    → WasRefused nodes op 7 now busy → FailedTries nodes op now busy
-gives_up_refused nodes op now busy r =
-    eight nodes op now r.rest r.last r.before busy r.split r.over r.have_failed r.single r.peeks r.asked r.leaf r.cause
+pub gives_up_refused : (nodes : ℕ) (op : Op) (from : Origin) (es now : List Entry) (busy : Busy)
+    → es ≡ now ++ from.older → WasRefused nodes op from 7 now busy
+    → FailedTries nodes op es now busy
+gives_up_refused nodes op from es now busy all r =
+    eight nodes op from es now r.rest r.last r.before busy all r.split r.over r.have_failed r.single r.peeks r.asked r.leaf r.cause
 
-pub gives_up_fault : (nodes : ℕ) (op : Op) (now try : List Entry) (busy : Busy)
-    (t : IsTrying nodes op 7 now try) → HasAsked 7 op t.before try
-    → MeetsFault nodes (seen_in try) op busy → FailedTries nodes op now busy
-gives_up_fault nodes op now try busy t asked fault =
-    eight nodes op now [] try t.before busy t.split refl t.have_failed (one_of_none try t.unrefused) t.peeks asked t.leaf
-    (fails_by_fault nodes op try busy fault)
+pub gives_up_fault : (nodes : ℕ) (op : Op) (from : Origin) (es now try : List Entry) (busy : Busy)
+    → es ≡ now ++ from.older → IsTrying nodes op from 7 now try → HasAsked 7 op from try
+    → MeetsFault nodes (seen_in try) op (IsKeyOf op from.taken) busy
+    → FailedTries nodes op es now busy
+gives_up_fault nodes op from es now try busy all t asked fault =
+    eight nodes op from es now [] try t.before busy all t.split refl t.have_failed (one_of_none try t.unrefused t.asks_first) t.peeks asked t.leaf
+    (fails_by_fault nodes op from.taken try busy fault)
 
 -- What more reads show
 
@@ -369,16 +427,26 @@ module _ (seens more : List Seen) (op : Op)
       → ReachesAddr seens op entries key addr height → ReachesAddr more op entries key addr height
   reaches_on entries key addr height r = (r.0, on r.0 r.1, r.2, reached_on key addr height r.3)
 
-  pub fault_on : (nodes : ℕ) (busy : Busy) → MeetsFault nodes seens op busy → MeetsFault nodes more op busy
-  fault_on nodes (Path addr seq) (inl bad) =
-      inl (bad.0, bad.1, bad.2, bad.3, on bad.0 bad.4, reaches_on bad.3 bad.1 addr bad.2 bad.5, bad.6, bad.7)
-  fault_on nodes (Path addr seq) (inr (inl off)) =
-      inr (inl (off.0, off.1, off.2, reaches_on off.2 off.0 addr off.1 off.3, off.4, off.5))
-  fault_on nodes (Path addr seq) (inr (inr place)) =
+  -- also for more keys
+  pub fault_on : (nodes : ℕ) (IsKey IsMore : List ℕ → Type 0) (busy : Busy)
+      → ((key : List ℕ) → IsKey key → IsMore key) → MeetsFault nodes seens op IsKey busy
+      → MeetsFault nodes more op IsMore busy
+  fault_on nodes IsKey IsMore (Path addr seq) keys (inl bad) =
+      inl (bad.0, bad.1, bad.2, bad.3, on bad.0 bad.4, reaches_on bad.3 bad.1 addr bad.2 bad.5, bad.6, bad.7, keys bad.1 bad.8)
+  fault_on nodes IsKey IsMore (Path addr seq) keys (inr (inl off)) =
+      inr (inl (off.0, off.1, off.2, reaches_on off.2 off.0 addr off.1 off.3, off.4, off.5, keys off.0 off.6))
+  fault_on nodes IsKey IsMore (Path addr seq) keys (inr (inr place)) =
       inr (inr (place.0, on place.0 place.1, place.2, place.3, place.4))
-  fault_on nodes (Lock node start len holder) fault = absurd fault
-  fault_on nodes (Moved node start expected found) fault = absurd fault
-  fault_on nodes (Forced tid) fault = absurd fault
+  fault_on nodes IsKey IsMore (Lock node start len holder) keys fault = absurd fault
+  fault_on nodes IsKey IsMore (Moved node start expected found) keys fault = absurd fault
+  fault_on nodes IsKey IsMore (Forced tid) keys fault = absurd fault
+
+-- a fault on the way of one key is one of these keys
+pub fault_for : (nodes : ℕ) (seens : List Seen) (op : Op) (key : List ℕ) (IsKey : List ℕ → Type 0)
+    (busy : Busy) → IsKey key → MeetsFor nodes seens op key busy
+    → MeetsFault nodes seens op IsKey busy
+fault_for nodes seens op key IsKey busy is fault =
+    fault_on seens seens op (λ s has. has) nodes (λ other. other ≡ key) IsKey busy (λ other same. subst IsKey (sym same) is) fault
 
 -- the reads of a try are those of a longer list
 seen_more : (try older : List Entry) (s : Seen) → Contains (seen_in try) s
@@ -423,85 +491,83 @@ some_refused (c ∷ cs) f = at (is_refusal c.reply) f (λ g. some_refused cs g)
     at true g rest = refl
     at false g rest = rest g
 
-or_last : (a b : Bool) → b ≡ true → (a || b) ≡ true
-or_last true b e = refl
-or_last false b e = e
-
 -- a later try begins after one that failed
-begins_after : (nodes : ℕ) (op : Op) (later : ℕ) (before : List Entry)
-    → FirstFailed nodes op later before → ((taken : List Entry) → IsWhole op taken → taken ≡ [])
-    → BeginsAfter nodes op before
-begins_after nodes op later before f whole = by f.tries f.split f.later_failed.causes
+begins_after : (nodes : ℕ) (op : Op) (from : Origin) (later : ℕ) (before : List Entry)
+    → FirstFailed nodes op from later before
+    → ((taken : List Entry) → IsWhole op taken → taken ≡ [])
+    → BeginsAfter nodes op from.older before
+begins_after nodes op from later before f whole = by f.tries f.split f.later_failed.causes
   where
-    first_alone : (first : List Entry) → is_one_try first ≡ true
-        → (none_refused first || ends_refused first) ≡ true
-    first_alone [] single = refl
-    first_alone (e ∷ es) single = on (list_all (λ (c : Call). not (is_refusal c.reply)) (call_in e.node e.what)) refl
-      where
-        on : (b : Bool) → list_all (λ (c : Call). not (is_refusal c.reply)) (call_in e.node e.what) ≡ b
-            → (none_refused (e ∷ es) || ends_refused (e ∷ es)) ≡ true
-        on true good = ap (λ b. b || ends_refused (e ∷ es)) (unrefused_on e es good single)
-        on false bad = or_last (none_refused (e ∷ es)) (ends_refused (e ∷ es)) (some_refused (call_in e.node e.what) bad)
+    none : from.taken ≡ []
+    none = whole from.taken f.whole
 
-    by_cause : (t older : List Entry) (busy : Busy) → FailsAs nodes op t busy
-        → BeginsAfter nodes op (t ++ older)
+    kept : MayBeKept from.older op [] f.first
+    kept = subst (λ (l : List Entry). MayBeKept from.older op l f.first) none f.kept
+
+    first_alone : (first : List Entry) → is_one_try first ≡ true → MayBeKept from.older op [] first
+        → BeginsAfter nodes op from.older first
+    first_alone [] single may = inr (inr (refl, may))
+    first_alone (e ∷ es) single may = on (list_all (λ (c : Call). not (is_refusal c.reply)) (call_in e.node e.what)) refl
+      where
+        parts : (none_refused es ≡ true) × (asks_at_first (calls_of (e ∷ es)) ≡ true)
+        parts = both_parts (none_refused es) (asks_at_first (calls_of (e ∷ es))) single
+
+        on : (b : Bool) → list_all (λ (c : Call). not (is_refusal c.reply)) (call_in e.node e.what) ≡ b
+            → BeginsAfter nodes op from.older (e ∷ es)
+        on true good =
+            inr (inr (both (none_refused (e ∷ es)) (is_one_try (e ∷ es)) (unrefused_on e es good parts.0) single, may))
+        on false bad = inl (some_refused (call_in e.node e.what) bad)
+
+    by_cause : (t older : List Entry) (busy : Busy) → FailsAs nodes op from.taken t busy
+        → BeginsAfter nodes op from.older (t ++ older)
     by_cause [] older busy fails = absurd fails
     by_cause (e ∷ es) older busy (inl refused) =
-        inl (or_last (none_refused (e ∷ es ++ older)) (ends_refused (e ∷ es ++ older))
-        (ap (list_any (λ (c : Call). is_refusal c.reply)) refused.1 ∙ ap (λ b. b || false) (was_refused (seen_in es) refused.0.node refused.0.request refused.0.reply busy refused.2)))
+        inl (ap (list_any (λ (c : Call). is_refusal c.reply)) refused.1 ∙ ap (λ b. b || false) (was_refused (seen_in es) refused.0.node refused.0.request refused.0.reply busy refused.2))
     by_cause (e ∷ es) older busy (inr fault) =
-        inr (busy, fault_on (seen_in (e ∷ es)) (seen_in (e ∷ es ++ older)) op (seen_more (e ∷ es) older) nodes busy fault)
+        inr (inl (
+          busy,
+          fault_on (seen_in (e ∷ es)) (seen_in (e ∷ es ++ older)) op (seen_more (e ∷ es) older) nodes (IsKeyOf op from.taken) (IsKeyOf op []) busy
+              (λ key is. subst (λ (l : List Entry). IsKeyOf op l key) none is) fault,
+        ))
 
-    by : (tries : List (List Entry)) → before ≡ flat_map (λ try. try) tries ++ f.first ++ f.taken
-        → AllByRecursion (λ try. (cause : Busy) × FailsAs nodes op try cause) tries
-        → BeginsAfter nodes op before
+    by : (tries : List (List Entry)) → before ≡ flat_map (λ try. try) tries ++ f.first ++ from.taken
+        → AllByRecursion (λ try. (cause : Busy) × FailsAs nodes op from.taken try cause) tries
+        → BeginsAfter nodes op from.older before
     by [] split causes =
-        inl (subst (λ (l : List Entry). (none_refused l || ends_refused l) ≡ true)
-        (sym (split ∙ ap (λ (l : List Entry). f.first ++ l) (whole f.taken f.whole) ∙ append-nil f.first)) (first_alone f.first f.single))
+        subst (BeginsAfter nodes op from.older)
+        (sym (split ∙ ap (λ (l : List Entry). f.first ++ l) none ∙ append-nil f.first)) (first_alone f.first f.single kept)
     by (t ∷ ts) split causes =
-        subst (BeginsAfter nodes op)
-        (sym (split ∙ sym (to_left t (flat_map (λ try. try) ts) f.first f.taken)))
-        (by_cause t (flat_map (λ try. try) ts ++ f.first ++ f.taken) causes.0.0 causes.0.1)
+        subst (BeginsAfter nodes op from.older)
+        (sym (split ∙ sym (to_left t (flat_map (λ try. try) ts) f.first from.taken)))
+        (by_cause t (flat_map (λ try. try) ts ++ f.first ++ from.taken) causes.0.0 causes.0.1)
 
 -- a later try that was not refused is the operation's last
-pub last_try : (nodes : ℕ) (op : Op) (later : ℕ) (now try : List Entry)
-    → IsTrying nodes op (suc later) now try → asks_for_catalog try ≡ true
-    → ((taken : List Entry) → IsWhole op taken → taken ≡ []) → LastTry nodes op now try
-last_try nodes op later now try t asked whole = record {
+pub last_try : (nodes : ℕ) (op : Op) (from : Origin) (later : ℕ) (es now try : List Entry)
+    → es ≡ now ++ from.older → IsTrying nodes op from (suc later) now try
+    → asks_for_catalog try ≡ true → ((taken : List Entry) → IsWhole op taken → taken ≡ [])
+    → LastTry nodes op es now try
+last_try nodes op from later es now try all t asked whole = record {
+  older = from.older;
+  all = all;
   rest = [];
   earlier = t.before;
   split = t.split;
   over = refl;
-  begins = begins_after nodes op later t.before t.have_failed whole;
-  is_try = both (reads_anew try) (none_refused try) (anew try asked t.peeks) t.unrefused;
+  begins = begins_after nodes op from later t.before t.have_failed whole;
+  is_try = both (reads_anew try) (none_refused try && is_one_try try) (anew try asked t.peeks)
+      (both (none_refused try) (is_one_try try) t.unrefused (one_of_none try t.unrefused t.asks_first));
 }
 
--- A leaf that a scan took
-
-pub leaf_taken : (nodes failed : ℕ) (name : List ℕ) (low high : Option (List ℕ)) (limit : ℕ)
-    (e : Entry) (now : List Entry) → EndsWithLeaf (Scan name low high limit) (e ∷ now)
-    → IsTrying nodes (Scan name low high limit) 0 (e ∷ now) []
-    × HasNoLeaf (Scan name low high limit) []
-leaf_taken nodes failed name low high limit e now ends = (
-  record {
-    before = e ∷ now;
-    split = refl;
-    have_failed = (tt, ends);
-    unrefused = refl;
-    peeks = tt;
-    leaf = tt;
-  },
-  tt,
-)
-
 -- an operation begins
-pub begins_trying : (nodes : ℕ) (op : Op) → IsTrying nodes op 0 [] [] × HasNoLeaf op []
-begins_trying nodes op = (
+pub begins_trying : (nodes : ℕ) (op : Op) (older : List Entry)
+    → IsTrying nodes op (record { taken = []; older = older }) 0 [] [] × HasNoLeaf op []
+begins_trying nodes op older = (
   record {
     before = [];
     split = refl;
-    have_failed = (whole op, tt);
+    have_failed = (refl, whole op, tt);
     unrefused = refl;
+    asks_first = refl;
     peeks = tt;
     leaf = newest_of_none op [] tt;
   },

@@ -1,6 +1,6 @@
 -- How a proxy goes on with what a try wants.
 use Rattle.std.proofs.Common.{◌≡◌, inl, inr, ℕ, zero, suc, Bool, true, List, Option}
-use Rattle.std.proofs.Common.{Some, None, refl, subst, sym, ap, ◌∙◌, length, []}
+use Rattle.std.proofs.Common.{Some, None, refl, subst, sym, ap, ◌∙◌, length, [], ◌++◌}
 use Rattle.std.specs.Prelude.{MatchOption, ⊤}
 use Rattle.mn_base.specs.declared.answer.Answer.{Answer}
 use Rattle.mn_base.specs.declared.answer.Answer.TheVariants as answers
@@ -14,7 +14,7 @@ use Rattle.mn_mini.specs.Mini.{Mini}
 use Rattle.mn_page.specs.declared.entry.CatEntry.{CatEntry}
 use Rattle.mn_txn.specs.Tries.{FreeSlotsAreLeft, TriesShowCauses, WornPagesShow}
 use Rattle.mn_runs.specs.declared.entry.Entry.{Entry}
-use Rattle.mn_law.specs.Answers.{IsSettled, IsWhole, LastTry, MeetsFault, ShowsAnswer, FreeSlots}
+use Rattle.mn_law.specs.Answers.{IsKeyOf, IsSettled, IsWhole, LastTry, MeetsFault, ShowsAnswer, FreeSlots}
 use Rattle.mn_runs.specs.Calls.{issues_of, since_begin}
 use Rattle.mn_runs.specs.Seen.{Place, Seen, seen_in}
 use Rattle.mn_law.specs.Places.{count_place}
@@ -29,15 +29,16 @@ use Rattle.mn_work.specs.declared.work.Work.{Work}
 use Rattle.mn_proxy.specs.Agrees.{AreComparesShown, AreOverNodes, IsAtRest, IsKept, IsOwn, IsOwnLast, IsPlaceFor, MayPeekFor}
 use Rattle.mn_proxy.specs.Agrees.{MayStep}
 use Rattle.mn_proxy.specs.Issues.{AreClosed, AreIssues}
+use Rattle.mn_proxy.specs.Jobs.{IsKeyAt, StandsAt}
 use Rattle.mn_work.specs.Cached.{Walks}
 use Rattle.mn_work.specs.Knows.{KeepsKnown}
 use Rattle.mn_work.specs.Last.{CatalogIsLast}
 use Rattle.mn_proxy.specs.State.{ProxyState}
-use Rattle.mn_proxy.specs.Tries.{HasAsked, IsTrying}
+use Rattle.mn_proxy.specs.Tries.{HasAsked, IsTrying, Origin}
 use Rattle.mn_proxy.specs.Turn as turns
 use Rattle.mn_proxy.specs.Turns.{FailedNow, HasFailed, KeepsSelf, MayIssue, TurnAgrees, with_known}
 use Rattle.mn_work.specs.Walks.{FailsBy, IfLater, is_later}
-use Rattle.mn_work.specs.Works.{AsksCountFor, IsJobOf, KeepsOp, StaysLast, WantsNext, counts_of}
+use Rattle.mn_work.specs.Works.{AsksCountFor, IsJobOf, KeepsOp, StaysLast, WantsNext, counts_of, retried_job}
 use Rattle.mn_proxy.proofs.Advancing.{AdvanceTells, AnswerTold, IsNoScan, NextTold, OpenAs, PeeksAs}
 use Rattle.mn_proxy.proofs.Advancing.{advance_tells, open_kept}
 use Rattle.mn_proxy.proofs.Answered.{answered_own, may_answer}
@@ -45,7 +46,8 @@ use Rattle.mn_proxy.proofs.CatalogsShow.{retried_scan_as}
 use Rattle.mn_proxy.proofs.Issues.{closed_are_given_up, closed_are_settled}
 use Rattle.mn_proxy.proofs.Last.{kept_walks}
 use Rattle.mn_proxy.proofs.Shown.{AnswerShown, not_later}
-use Rattle.mn_proxy.proofs.Tries.{last_try}
+use Rattle.mn_proxy.proofs.Tries.{fault_on, last_try}
+use Rattle.mn_proxy.proofs.Retrying.{key_again, key_is, stands_again}
 use Rattle.mn_work.proofs.Works.{plan_asked, retried_after_wants}
 
 -- What is kept
@@ -93,12 +95,14 @@ counts_place op job node place asks next is = by_op op job asks next
 -- Causes and answers
 
 -- a cause that is told is the one that was met
-cause_told : (nodes failed : ℕ) (seens : List Seen) (op : Op) (cause : Option Busy) (busy : Busy)
-    → IfLater failed (cause ≡ Some busy) → FailsBy nodes failed seens op cause
-    → IfLater failed (MeetsFault nodes seens op busy)
-cause_told nodes zero seens op cause busy is fails = tt
-cause_told nodes (suc n) seens op cause busy is fails =
-    subst (λ (c : Option Busy). MatchOption c ⊤ (λ b. IfLater (suc n) (MeetsFault nodes seens op b))) is fails
+cause_told : (nodes failed : ℕ) (seens : List Seen) (op : Op) (IsKey IsMore : List ℕ → Type 0)
+    (cause : Option Busy) (busy : Busy) → ((key : List ℕ) → IsKey key → IsMore key)
+    → IfLater failed (cause ≡ Some busy) → FailsBy nodes failed seens op IsKey cause
+    → IfLater failed (MeetsFault nodes seens op IsMore busy)
+cause_told nodes zero seens op IsKey IsMore cause busy keys is fails = tt
+cause_told nodes (suc n) seens op IsKey IsMore cause busy keys is fails =
+    fault_on seens seens op (λ s has. has) nodes IsKey IsMore busy keys
+    (subst (λ (c : Option Busy). MatchOption c ⊤ (λ b. IfLater (suc n) (MeetsFault nodes seens op IsKey b))) is fails)
 
 -- the tries of an operation that is no scan are all of its entries
 whole_is : (op : Op) → IsNoScan op → (taken : List Entry) → IsWhole op taken → taken ≡ []
@@ -109,34 +113,35 @@ whole_is (Scan name low high limit) scanless taken whole = absurd scanless
 whole_is Versions scanless taken whole = whole
 
 -- an answer of a later try is shown by that try, the last one
-last_shown : (es : List Entry) (nodes failed : ℕ) (op : Op) (try : List Entry)
-    (t : IsTrying nodes op failed (since_begin es) try) → HasAsked failed op t.before try
+last_shown : (es : List Entry) (nodes failed : ℕ) (op : Op) (from : Origin) (try : List Entry)
+    → es ≡ since_begin es ++ from.older
+    → (t : IsTrying nodes op from failed (since_begin es) try) → HasAsked failed op from try
     → AreOverNodes nodes failed (since_begin es) → IsNoScan op → AreClosed (since_begin es)
     → (answer : Answer) → AnswerShown nodes failed (seen_in try) op answer
     → ShowsAnswer es (since_begin es) op answer × IsSettled (since_begin es) answer
-last_shown es nodes zero op try t asked over scanless closed (answers.Full need free) shown =
+last_shown es nodes zero op from try all t asked over scanless closed (answers.Full need free) shown =
     absurd (not_later shown.0)
-last_shown es nodes zero op try t asked over scanless closed (answers.Worn node start) shown =
+last_shown es nodes zero op from try all t asked over scanless closed (answers.Worn node start) shown =
     absurd (not_later shown.0)
-last_shown es nodes (suc n) op try t asked over scanless closed (answers.Full need free) shown =
-    let last = last_try nodes op n (since_begin es) try t asked (whole_is op scanless) in (
+last_shown es nodes (suc n) op from try all t asked over scanless closed (answers.Full need free) shown =
+    let last = last_try nodes op from n es (since_begin es) try all t asked (whole_is op scanless) in (
       (
         closed_are_given_up (since_begin es) closed,
         try,
-        subst (λ (k : ℕ). LastTry k op (since_begin es) try) (sym over) last,
+        subst (λ (k : ℕ). LastTry k op es (since_begin es) try) (sym over) last,
         shown.1,
         shown.2,
         subst (λ (k : ℕ). FreeSlots k (seen_in try) free) (sym over) shown.3,
       ),
       closed_are_settled (since_begin es) closed,
     )
-last_shown es nodes (suc n) op try t asked over scanless closed (answers.Worn node start) shown =
-    let last = last_try nodes op n (since_begin es) try t asked (whole_is op scanless) in (
+last_shown es nodes (suc n) op from try all t asked over scanless closed (answers.Worn node start) shown =
+    let last = last_try nodes op from n es (since_begin es) try all t asked (whole_is op scanless) in (
       (
         closed_are_given_up (since_begin es) closed,
         try,
         shown.1.0,
-        subst (λ (k : ℕ). LastTry k op (since_begin es) try) (sym over) last,
+        subst (λ (k : ℕ). LastTry k op es (since_begin es) try) (sym over) last,
         shown.1.1,
         shown.1.2,
         shown.1.3,
@@ -144,7 +149,7 @@ last_shown es nodes (suc n) op try t asked over scanless closed (answers.Worn no
       ),
       closed_are_settled (since_begin es) closed,
     )
-last_shown es nodes failed op try t asked over scanless closed answer shown = absurd shown
+last_shown es nodes failed op from try all t asked over scanless closed answer shown = absurd shown
 
 -- What a try wants
 
@@ -163,8 +168,8 @@ module _ (es : List Entry) (p : ProxyState) (known : Known) (before after : Work
       open_kept es p.known known before keeps.0 keeps.1
       (kept_walks es p.known known (is_later before.failed) (Some next) keeps.1 walks rest.0.last.0) rest.0
 
-  tells : AdvanceTells es known after before stays.is.trying.before stays.is.try next
-  tells = advance_tells es p.known known before after next keeps is op wants causes worns left (goes es rest.0.last.0.0 rest.0.last.1) stays.is
+  tells : AdvanceTells es known after before stays.is.began.from stays.is.try next
+  tells = advance_tells es p.known known before after next keeps is op wants causes worns left (goes es rest.0.last.0.0 rest.0.last.1) (own_known es p known keeps own).catalog stays.is
 
   -- where its try goes on, the client is at rest
   rest_of : OpenAs es known after stays.is.try → IsAtRest es known after
@@ -185,25 +190,25 @@ module _ (es : List Entry) (p : ProxyState) (known : Known) (before after : Work
 
   pub asks_catalog : next ≡ Next.Catalog → IsAtRest es known after
   asks_catalog e =
-      rest_of (subst (λ (n : Next). AdvanceTells es known after before stays.is.trying.before stays.is.try n) e tells).open_still
+      rest_of (subst (λ (n : Next). AdvanceTells es known after before stays.is.began.from stays.is.try n) e tells).open_still
 
   pub asks_page : (addr : Addr) (peek : Bool) → next ≡ Next.Page addr peek
       → IsAtRest es known after × (peek ≡ true → (after.failed ≡ 0) × MayPeekFor after.job (by.Page addr))
   asks_page addr peek e =
-      let t = subst (λ (n : Next). AdvanceTells es known after before stays.is.trying.before stays.is.try n) e tells in
+      let t = subst (λ (n : Next). AdvanceTells es known after before stays.is.began.from stays.is.try n) e tells in
       (rest_of t.open_still, (told_of (Next.Page addr peek) t.told).2.1)
 
   pub asks_count : (node : NodeNo) (peek : Bool) → next ≡ Next.Count node peek
       → IsAtRest es known after × (peek ≡ true → (after.failed ≡ 0) × MayPeekFor after.job by.Count)
   asks_count node peek e =
-      let t = subst (λ (n : Next). AdvanceTells es known after before stays.is.trying.before stays.is.try n) e tells in
+      let t = subst (λ (n : Next). AdvanceTells es known after before stays.is.began.from stays.is.try n) e tells in
       (rest_of t.open_still, (told_of (Next.Count node peek) t.told).2.1)
 
   pub makes_plan : (mini : Mini) (reply : Reply) → next ≡ Next.Plan mini reply
       → MayIssue es known after (by.Plan reply) mini
   unfolding rest_of
   makes_plan mini reply e =
-      let t = subst (λ (n : Next). AdvanceTells es known after before stays.is.trying.before stays.is.try n) e tells in
+      let t = subst (λ (n : Next). AdvanceTells es known after before stays.is.began.from stays.is.try n) e tells in
       let told = told_of (Next.Plan mini reply) t.told in
       let begun = plan_asked p.known known before after keeps is op mini reply
       (subst (λ (n : Next). WantsNext known before after n) e wants) in
@@ -215,41 +220,54 @@ module _ (es : List Entry) (p : ProxyState) (known : Known) (before after : Work
 
   pub has_failed : (cause : Option Busy) → next ≡ Next.Fails cause → HasFailed es known after cause
   has_failed cause e =
-      let t = subst (λ (n : Next). AdvanceTells es known after before stays.is.trying.before stays.is.try n) e tells in
+      let t = subst (λ (n : Next). AdvanceTells es known after before stays.is.began.from stays.is.try n) e tells in
       let told = told_of (Next.Fails cause) t.told in
       let same = retried_after_wants p.known known before after cause keeps is (subst (λ (n : Next). WantsNext known before after n) e wants) in
       record {
         of = t.open_still.is.of;
         closed = rest.1;
         over = subst (λ (n : ℕ). AreOverNodes known.nodes n (since_begin es)) (sym op.1) t.asked.1;
+        began = record {
+          from = stays.is.began.from;
+          all = stays.is.began.all;
+          place = subst (λ (o : Op). StandsAt o stays.is.began.from.taken (retried_job after.job)) (sym op.0) (place same.1);
+        };
         failed_by = λ busy told_cause.
-            subst (λ (n : ℕ). FailedNow known.nodes n after.op (since_begin es) busy) (sym op.1)
-            (subst (λ (o : Op). FailedNow known.nodes before.failed o (since_begin es) busy) (sym op.0)
-            (inr (stays.is.try, stays.is.trying, t.asked.0, by_cause busy told_cause told.2.0)));
+            subst (λ (n : ℕ). FailedNow known.nodes n after.op stays.is.began.from (since_begin es) busy) (sym op.1)
+            (subst (λ (o : Op). FailedNow known.nodes before.failed o stays.is.began.from (since_begin es) busy) (sym op.0)
+            (inr (stays.is.try, stays.is.trying, t.asked.0, by_cause (place same.1) busy told_cause told.2.0)));
         scan = retried_scan_as p.known (since_begin es) before after is op.0 same.0 same.1 rest.0.shows.0;
       }
     where
-      by_cause : (busy : Busy) → IfLater after.failed (cause ≡ Some busy)
-          → FailsBy known.nodes after.failed (seen_in stays.is.try) after.op cause
-          → IfLater before.failed (MeetsFault known.nodes (seen_in stays.is.try) before.op busy)
-      by_cause busy cause_is fails =
-          cause_told known.nodes before.failed (seen_in stays.is.try) before.op cause busy
+      -- the next try stands where this one did
+      place : retried_job after.job ≡ retried_job before.job
+          → StandsAt before.op stays.is.began.from.taken (retried_job after.job)
+      place same =
+          subst (StandsAt before.op stays.is.began.from.taken) (sym same) (stands_again before.op stays.is.began.from.taken before.job stays.is.began.place)
+
+      by_cause : StandsAt before.op stays.is.began.from.taken (retried_job after.job) → (busy : Busy)
+          → IfLater after.failed (cause ≡ Some busy)
+          → FailsBy known.nodes after.failed (seen_in stays.is.try) after.op (IsKeyAt after.op after.job) cause
+          → IfLater before.failed (MeetsFault known.nodes (seen_in stays.is.try) before.op (IsKeyOf before.op stays.is.began.from.taken) busy)
+      by_cause stands busy cause_is fails =
+          cause_told known.nodes before.failed (seen_in stays.is.try) before.op (IsKeyAt before.op after.job) (IsKeyOf before.op stays.is.began.from.taken) cause busy
+          (λ key is. key_is before.op stays.is.began.from.taken (retried_job after.job) key stands (key_again before.op after.job key is))
           (subst (λ (n : ℕ). IfLater n (cause ≡ Some busy)) op.1 cause_is)
-          (subst (λ (n : ℕ). FailsBy known.nodes n (seen_in stays.is.try) before.op cause) op.1
-          (subst (λ (o : Op). FailsBy known.nodes after.failed (seen_in stays.is.try) o cause) op.0 fails))
+          (subst (λ (n : ℕ). FailsBy known.nodes n (seen_in stays.is.try) before.op (IsKeyAt before.op after.job) cause) op.1
+          (subst (λ (o : Op). FailsBy known.nodes after.failed (seen_in stays.is.try) o (IsKeyAt o after.job) cause) op.0 fails))
 
   pub answers_so : (answer : Answer) → next ≡ Next.Answers answer
       → MayStep es (with_known p known) (steps.Done answer)
   answers_so answer e =
-      let t = subst (λ (n : Next). AdvanceTells es known after before stays.is.trying.before stays.is.try n) e tells in
+      let t = subst (λ (n : Next). AdvanceTells es known after before stays.is.began.from stays.is.try n) e tells in
       by t.asked (told_of (Next.Answers answer) t.told).2.0
     where
-      by : HasAsked before.failed before.op stays.is.trying.before stays.is.try
+      by : HasAsked before.failed before.op stays.is.began.from stays.is.try
           × AreOverNodes known.nodes before.failed (since_begin es)
           → AnswerTold known.nodes after.failed (since_begin es) (seen_in stays.is.try) after.op answer
           → MayStep es (with_known p known) (steps.Done answer)
       by asked (inl (shown, scanless)) =
-          let it = last_shown es known.nodes before.failed before.op stays.is.try stays.is.trying asked.0 asked.1
+          let it = last_shown es known.nodes before.failed before.op stays.is.began.from stays.is.try stays.is.began.all stays.is.trying asked.0 asked.1
           (subst IsNoScan op.0 scanless) rest.1 answer
           (subst (λ (n : ℕ). AnswerShown known.nodes n (seen_in stays.is.try) before.op answer) op.1
           (subst (λ (o : Op). AnswerShown known.nodes after.failed (seen_in stays.is.try) o answer) op.0 shown)) in

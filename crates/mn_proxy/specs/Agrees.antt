@@ -47,11 +47,11 @@ use Rattle.mn_work.specs.declared.work.Work.{Work}
 use Rattle.mn_work.specs.Catalogs.{HasParentsBelow}
 use Rattle.mn_work.specs.Last.{CacheIsLast, CatalogIsLast}
 use Rattle.mn_proxy.specs.Issues.{AreClosed, AreFresh, AreIssues, are_closed}
-use Rattle.mn_proxy.specs.Jobs.{JobShows, ScanShown}
+use Rattle.mn_proxy.specs.Jobs.{BeganFrom, JobShows, ScanShown}
 use Rattle.mn_work.specs.Places.{place_of}
 use Rattle.mn_work.specs.Refusals.{refusal_of}
 use Rattle.mn_proxy.specs.State.{IsIdle, IsReady, ProxyState}
-use Rattle.mn_proxy.specs.Tries.{HasAsked, HasNoLeaf, IsTrying, WasRefused}
+use Rattle.mn_proxy.specs.Tries.{HasAsked, HasNoLeaf, HasSentNone, IsTrying, Origin, WasRefused}
 use Rattle.mn_work.specs.Walks.{IfLater}
 use Rattle.mn_work.specs.Works.{HasBegun, JobIsLast}
 
@@ -89,24 +89,24 @@ IsUnderWay es op = (number : ℕ) × (under_way es ≡ Some (record { number = n
 abbrev pub AreOverNodes : ℕ → ℕ → List Entry → Type 0
 AreOverNodes nodes failed now = IfLater failed (nodes_of (issues_of now) ≡ nodes)
 
--- a job that has begun goes by a kept catalog that its try asked for, where it had to; where none
--- is kept it is still to ask
-abbrev pub JobAsked : ℕ → ℕ → Op → List Entry → List Entry → List Entry → Option (List CatEntry)
+-- a job that has begun goes by a kept catalog that its try asked for, where it had to; one that
+-- hasn't, or has none, is still to ask
+abbrev pub JobAsked : ℕ → ℕ → Op → List Entry → Origin → List Entry → Option (List CatEntry)
     → Job → Type 0
-JobAsked nodes failed op now before try None job = ⊤
-JobAsked nodes failed op now before try (Some entries) at.Start = ⊤
-JobAsked nodes failed op now before try (Some entries) job =
-    HasAsked failed op before try × AreOverNodes nodes failed now
+JobAsked nodes failed op now from try None job = HasSentNone try
+JobAsked nodes failed op now from try (Some entries) at.Start = HasSentNone try
+JobAsked nodes failed op now from try (Some entries) job =
+    HasAsked failed op from try × AreOverNodes nodes failed now
 
 -- the try of the operation under way goes on: nothing refused it, what its job has read is shown,
 -- and what it goes by was shown last
 pub record IsOpen (es : List Entry) (known : Known) (w : Work) : Type 0 where
   pub of : IsUnderWay es w.op
+  pub began : BeganFrom es w.op w.job
   pub try : List Entry
-  pub trying : IsTrying known.nodes w.op w.failed (since_begin es) try
+  pub trying : IsTrying known.nodes w.op began.from w.failed (since_begin es) try
   pub leafless : HasNoLeaf w.op try
-  pub asked : JobAsked known.nodes w.failed w.op (since_begin es) trying.before try known.catalog
-      w.job
+  pub asked : JobAsked known.nodes w.failed w.op (since_begin es) began.from try known.catalog w.job
   pub shows : JobShows known (since_begin es) try w
   pub last : KeptIsLast es known × JobIsLast es w.job
 
@@ -201,9 +201,10 @@ MiniGoesOn es known w c purpose = ReadGoesOn es known w purpose c.done c.reads
 abbrev pub MiniFailed : List Entry → Known → Work → Coordination → NodeReply → Type 0
 MiniFailed es known w c reply =
     Fits (try_request c.tid c.mini (participant c c.done)) reply
+    × ((began : BeganFrom es w.op w.job)
     × (is_refusal reply ≡ true → (busy : Busy)
     → IfLater w.failed (refusal_of c.tid c.mini (participant c c.done) reply ≡ Some busy)
-    → WasRefused known.nodes w.op w.failed (since_begin es) busy)
+    → WasRefused known.nodes w.op began.from w.failed (since_begin es) busy))
     × ScanShown (since_begin es) w.spoiled w.op w.job × (is_done reply ≡ false)
     × KeptIsLast es known
 

@@ -1,6 +1,7 @@
 -- What the job of an operation has read, as its client's own list shows it. Of a first try only
 -- what can't have been kept is shown; of a later one all that it goes by.
-use Rattle.std.specs.Prelude.{ℕ, ◌≡◌, ◌⊎◌, Bool, true, false, List, [], ◌∷◌, Option, Some, None}
+use Rattle.std.specs.Prelude.{ℕ, ◌≡◌, ◌⊎◌, Bool, true, false, List, [], ◌∷◌, ◌++◌, Option, Some}
+use Rattle.std.specs.Prelude.{None}
 use Rattle.std.specs.Prelude.{MatchOption, Contains, slice_get, length, ◌≤◌, ⊤}
 use Rattle.std.specs.List.{AllByRecursion}
 use Rattle.byteorder.specs.Endian.{big_bytes}
@@ -17,10 +18,12 @@ use Rattle.mn_page.specs.Grammar.{page_bytes}
 use Rattle.mn_page.specs.Space.{count_size, count_start}
 use Rattle.mn_scan.specs.Scan.{ScanState, key_at}
 use Rattle.mn_runs.specs.declared.entry.Entry.{Entry}
-use Rattle.mn_law.specs.Answers.{ShowsBytes}
+use Rattle.mn_law.specs.Answers.{IsKeyOf, ShowsBytes}
 use Rattle.mn_law.specs.Scans.{HasGathered}
 use Rattle.mn_law.specs.Shown.{FirstCatalog, IsCatalogRead, ReachesEnd, SeesCatalog}
+use Rattle.mn_runs.specs.Calls.{since_begin}
 use Rattle.mn_runs.specs.Seen.{Seen, seen_in}
+use Rattle.mn_proxy.specs.Tries.{Origin}
 use Rattle.mn_work.specs.declared.known.Known.{Known}
 use Rattle.mn_work.specs.declared.work.Job.{Job}
 use Rattle.mn_work.specs.declared.work.Job.TheVariants as at
@@ -116,6 +119,24 @@ ScanShown now spoiled (Scan name low high limit) (at.Scan s) =
 ScanShown now spoiled (Scan name low high limit) at.Start =
     spoiled ≡ false → AllByRecursion (λ seen. IsCatalogRead seen → ⊥) (seen_in now)
 ScanShown now spoiled op job = ⊤
+
+-- Where the tries began
+
+-- a scan that hasn't ended stands behind the leaf that it took last; any other job took none
+abbrev pub StandsAt : Op → List Entry → Job → Type 0
+StandsAt op taken (at.Scan s) = s.ended ≡ false → IsKeyOf op taken (key_at s)
+StandsAt op taken job = taken ≡ []
+
+-- a key for which the job walks: where a scan stands, or one of the operation
+abbrev pub IsKeyAt : Op → Job → List ℕ → Type 0
+IsKeyAt op (at.Scan s) key = (s.ended ≡ false) × (key ≡ key_at s)
+IsKeyAt op job key = IsKeyOf op [] key
+
+-- the tries of the operation under way began here
+pub record BeganFrom (es : List Entry) (op : Op) (job : Job) : Type 0 where
+  pub from : Origin
+  pub all : es ≡ since_begin es ++ from.older
+  pub place : StandsAt op from.taken job
 
 -- The whole
 

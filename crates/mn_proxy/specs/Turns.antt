@@ -19,7 +19,7 @@ use Rattle.mn_mini.specs.declared.request.Request.{Request}
 use Rattle.mn_mini.specs.Mini.{Mini}
 use Rattle.mn_runs.specs.declared.entry.Entry.{Entry}
 use Rattle.mn_runs.specs.declared.entry.What.TheVariants.{Abandoned}
-use Rattle.mn_law.specs.Answers.{LastPlanReplies, MeetsFault, are_given_up, are_settled}
+use Rattle.mn_law.specs.Answers.{IsKeyOf, LastPlanReplies, MeetsFault, are_given_up, are_settled}
 use Rattle.mn_law.specs.Answers.{is_down_cause, is_refusal}
 use Rattle.mn_runs.specs.Calls.{calls_of, since_begin}
 use Rattle.mn_runs.specs.Seen.{Place, Seen, seen_in}
@@ -41,21 +41,24 @@ use Rattle.mn_proxy.specs.Agrees.{AreComparesShown, AreOverNodes, Agrees, Enters
 use Rattle.mn_proxy.specs.Agrees.{IsAtRest, IsMadeFor, IsOwnLast, IsSoundStep, IsUnderWay}
 use Rattle.mn_proxy.specs.Agrees.{KeptIsLast, MayStep}
 use Rattle.mn_proxy.specs.Issues.{AreClosed}
-use Rattle.mn_proxy.specs.Jobs.{ScanShown}
+use Rattle.mn_proxy.specs.Jobs.{BeganFrom, ScanShown}
 use Rattle.mn_work.specs.Knows.{ArePages, KeepsKnown, LearnsOrForgets}
 use Rattle.mn_work.specs.Refusals.{refusal_of}
 use Rattle.mn_proxy.specs.State.{IsOutIn, ProxyState}
-use Rattle.mn_proxy.specs.Tries.{HasAsked, HasNoLeaf, IsTrying, WasRefused, max_tries}
+use Rattle.mn_proxy.specs.Tries.{HasAsked, HasNoLeaf, HasSentNone, IsTrying, Origin, WasRefused}
+use Rattle.mn_proxy.specs.Tries.{max_tries}
 use Rattle.mn_work.specs.Walks.{IfLater}
-use Rattle.mn_work.specs.Works.{AsksCount, AsksPage, IsJobOf, IsReadIfOn, IsStartable, KeepsOp}
-use Rattle.mn_work.specs.Works.{TakesCatalog}
+use Rattle.mn_work.specs.Works.{AsksCount, AsksPage, IsJobOf, IsReadIfOn, IsStartable, IsToAsk}
+use Rattle.mn_work.specs.Works.{KeepsOp, TakesCatalog}
 use Rattle.mn_work.specs.Works.{TakesCountBytes, TakesPageBytes, counts_of, retried_job}
 
 -- What is so of an operation
 
--- its job asked for what is read for this purpose
+-- its job asked for what is read for this purpose: for the catalog one that hasn't begun, or has
+-- none
 abbrev pub AsksFor : Known → Work → Purpose → Type 0
-AsksFor known w by.Catalog = IsStartable w.op w.job
+AsksFor known w by.Catalog =
+    IsStartable w.op w.job × IsToAsk known.catalog w.job
 AsksFor known w (by.Page addr) = AsksPage known w addr × (addr.node.0 < known.nodes)
 AsksFor known w by.Count = AsksCount w × (length (counts_of w.job) < known.nodes)
 AsksFor known w (by.Plan reply) = ⊤
@@ -148,11 +151,11 @@ TurnAgrees es p turns.Stops = ⊥
 -- Tries that failed
 
 -- a try failed so: it was refused, or met a fault
-abbrev pub FailedNow : ℕ → ℕ → Op → List Entry → Busy → Type 0
-FailedNow nodes failed op now busy =
-    WasRefused nodes op failed now busy
-    ⊎ ((try : List Entry) × (t : IsTrying nodes op failed now try) × HasAsked failed op t.before try
-    × IfLater failed (MeetsFault nodes (seen_in try) op busy))
+abbrev pub FailedNow : ℕ → ℕ → Op → Origin → List Entry → Busy → Type 0
+FailedNow nodes failed op from now busy =
+    WasRefused nodes op from failed now busy
+    ⊎ ((try : List Entry) × IsTrying nodes op from failed now try × HasAsked failed op from try
+    × IfLater failed (MeetsFault nodes (seen_in try) op (IsKeyOf op from.taken) busy))
 
 -- the try of the operation under way failed, a later one by this cause; of a first one none need be
 -- shown
@@ -161,17 +164,20 @@ pub record HasFailed (es : List Entry) (known : Known) (w : Work) (cause : Optio
   pub of : IsUnderWay es w.op
   pub closed : AreClosed (since_begin es)
   pub over : AreOverNodes known.nodes w.failed (since_begin es)
+  pub began : BeganFrom es w.op (retried_job w.job)
   pub failed_by : (busy : Busy) → IfLater w.failed (cause ≡ Some busy)
-      → FailedNow known.nodes w.failed w.op (since_begin es) busy
+      → FailedNow known.nodes w.failed w.op began.from (since_begin es) busy
   pub scan : ScanShown (since_begin es) w.spoiled w.op (retried_job w.job)
 
 -- it may be tried again: so the next try stands
 pub record MayRetry (es : List Entry) (known : Known) (w : Work) : Type 0 where
   pub of : IsUnderWay es w.op
   pub closed : AreClosed (since_begin es)
+  pub began : BeganFrom es w.op (retried_job w.job)
   pub try : List Entry
-  pub trying : IsTrying known.nodes w.op (w.failed + 1) (since_begin es) try
+  pub trying : IsTrying known.nodes w.op began.from (w.failed + 1) (since_begin es) try
   pub leafless : HasNoLeaf w.op try
+  pub sent : HasSentNone try
   pub scan : ScanShown (since_begin es) w.spoiled w.op (retried_job w.job)
 
 -- Reads

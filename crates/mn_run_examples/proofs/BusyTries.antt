@@ -10,30 +10,31 @@ use Rattle.mn_runs.specs.declared.entry.Entry.{Entry}
 use Rattle.mn_law.specs.Answers.{FailsAs, Reached}
 use Rattle.mn_law.specs.Run.{IsLegalBy}
 use Rattle.mn_run_examples.proofs.TwoNodes.{node, id}
-use Rattle.mn_run_examples.proofs.Entries.{begin, answered, key}
+use Rattle.mn_law.specs.Places.{catalog_place}
+use Rattle.mn_run_examples.proofs.Entries.{begin, answered, key, read}
 use Rattle.mn_run_examples.proofs.Scans.{entries, m2}
-use Rattle.mn_run_examples.proofs.Tries.{catalog_seen, leaf_seen, inner_seen, child_seen, sees_catalog, inner_spelled, child_spelled, leaf_shown, number_shown, put, inner, copied_child, Kind, locked, moved, entry_moved, forced, strayed, first_try, later_try, six_after, six_tries, eight_tries, kept_astray}
+use Rattle.mn_run_examples.proofs.Tries.{catalog_bytes, catalog_seen, leaf_seen, inner_seen, child_seen, sees_catalog, inner_spelled, child_spelled, leaf_shown, number_shown, put, inner, copied_child, Kind, locked, moved, entry_moved, forced, strayed, first_try, later_try, six_after, six_tries, eight_tries, kept_astray}
 
 -- How each kind fails
 
 locked_fails : (s : ℕ) (before : List Entry)
-    → FailsAs 2 put (locked.made s ++ before) (Lock (node 0) 128 64 (id 1 1))
+    → FailsAs 2 put [] (locked.made s ++ before) (Lock (node 0) 128 64 (id 1 1))
 locked_fails s before = inl (_, refl, refl)
 
 moved_fails : (found : List ℕ) (s : ℕ) (before : List Entry)
-    → FailsAs 2 put ((moved found).made s ++ before) (Moved (node 1) 21504 (big_bytes 8 3) found)
+    → FailsAs 2 put [] ((moved found).made s ++ before) (Moved (node 1) 21504 (big_bytes 8 3) found)
 moved_fails found s before = inl (_, refl, (21504, big_bytes 8 3, refl, inl (leaf_seen, (0, omega arith, refl), refl, lit≤ tt, leaf_shown), refl))
 
 entry_moved_fails : (found : List ℕ) (s : ℕ) (before : List Entry)
-    → FailsAs 2 put ((entry_moved found).made s ++ before) (Moved (node 0) 128 (big_bytes 8 m2.seq) found)
+    → FailsAs 2 put [] ((entry_moved found).made s ++ before) (Moved (node 0) 128 (big_bytes 8 m2.seq) found)
 entry_moved_fails found s before = inl (_, refl, (128, big_bytes 8 m2.seq, refl, inl (catalog_seen, (1, omega arith, refl), refl, lit≤ tt, number_shown), refl))
 
 forced_fails : (s : ℕ) (before : List Entry)
-    → FailsAs 2 put (forced.made s ++ before) (Forced (id 0 (s + 2)))
+    → FailsAs 2 put [] (forced.made s ++ before) (Forced (id 0 (s + 2)))
 forced_fails s before = inl (_, refl, refl)
 
 strayed_fails : (s : ℕ) (before : List Entry)
-    → FailsAs 2 put (strayed.made s ++ before) (Path (at 0 1) 6)
+    → FailsAs 2 put [] (strayed.made s ++ before) (Path (at 0 1) 6)
 strayed_fails s before = inr (inl (
   child_seen,
   key 7,
@@ -49,12 +50,13 @@ strayed_fails s before = inr (inl (
   ),
   refl,
   inr (copied_child, child_spelled, inl (λ serves. absurd (let n = serves.1 in let s = serves.2 in cc)), refl),
+  (0, lit< tt, refl),
 ))
 
 -- Eight tries
 
 six_fail : (first : Kind)
-    → AllByRecursion (λ try. (cause : Busy) × FailsAs 2 put try cause) (six_after first)
+    → AllByRecursion (λ try. (cause : Busy) × FailsAs 2 put [] try cause) (six_after first)
 six_fail first = (
   (_, locked_fails 18 (strayed.after 15)),
   (
@@ -75,7 +77,7 @@ lock_answered = record {
     (put, refl),
     (
       refl,
-      (refl, record { rest = locked.after 21; last = later_try locked locked 21; middle = six_tries; first = first_try; taken = []; split = refl; over = refl; six = refl; last_fails = locked_fails 21 (locked.after 18); others_fail = six_fail locked; tries = refl; anew = refl; whole = refl; took = tt; leaves = (tt, (tt, (tt, (tt, (tt, (tt, (tt, tt)))))), tt); may_be_kept = tt }),
+      (refl, record { older = begin put ∷ []; all = refl; rest = locked.after 21; last = later_try locked locked 21; middle = six_tries; first = first_try; taken = []; split = refl; over = refl; six = refl; last_fails = locked_fails 21 (locked.after 18); others_fail = six_fail locked; tries = refl; anew = refl; whole = refl; took = tt; leaves = (tt, (tt, (tt, (tt, (tt, (tt, (tt, tt)))))), tt); may_be_kept = inl refl }),
     ),
   );
 }
@@ -92,6 +94,8 @@ moved_answered = record {
       (
         refl,
         record {
+          older = begin put ∷ [];
+          all = refl;
           rest = (moved (99 ∷ [])).after 21;
           last = later_try (moved (99 ∷ [])) locked 21;
           middle = six_tries;
@@ -107,7 +111,7 @@ moved_answered = record {
           whole = refl;
           took = tt;
           leaves = (tt, (tt, (tt, (tt, (tt, (tt, (tt, tt)))))), tt);
-          may_be_kept = tt;
+          may_be_kept = inl refl;
         },
       ),
     ),
@@ -123,7 +127,7 @@ forced_answered = record {
     (put, refl),
     (
       refl,
-      (refl, record { rest = forced.after 21; last = later_try forced locked 21; middle = six_tries; first = first_try; taken = []; split = refl; over = refl; six = refl; last_fails = forced_fails 21 (locked.after 18); others_fail = six_fail locked; tries = refl; anew = refl; whole = refl; took = tt; leaves = (tt, (tt, (tt, (tt, (tt, (tt, (tt, tt)))))), tt); may_be_kept = tt }),
+      (refl, record { older = begin put ∷ []; all = refl; rest = forced.after 21; last = later_try forced locked 21; middle = six_tries; first = first_try; taken = []; split = refl; over = refl; six = refl; last_fails = forced_fails 21 (locked.after 18); others_fail = six_fail locked; tries = refl; anew = refl; whole = refl; took = tt; leaves = (tt, (tt, (tt, (tt, (tt, (tt, (tt, tt)))))), tt); may_be_kept = inl refl }),
     ),
   );
 }
@@ -137,14 +141,17 @@ path_answered = record {
     (put, refl),
     (
       refl,
-      (refl, record { rest = []; last = later_try strayed locked 21; middle = six_tries; first = first_try; taken = []; split = refl; over = refl; six = refl; last_fails = strayed_fails 21 (locked.after 18); others_fail = six_fail locked; tries = refl; anew = refl; whole = refl; took = tt; leaves = (tt, (tt, (tt, (tt, (tt, (tt, (tt, tt)))))), tt); may_be_kept = tt }),
+      (refl, record { older = begin put ∷ []; all = refl; rest = []; last = later_try strayed locked 21; middle = six_tries; first = first_try; taken = []; split = refl; over = refl; six = refl; last_fails = strayed_fails 21 (locked.after 18); others_fail = six_fail locked; tries = refl; anew = refl; whole = refl; took = tt; leaves = (tt, (tt, (tt, (tt, (tt, (tt, (tt, tt)))))), tt); may_be_kept = inl refl }),
     ),
   );
 }
 
--- the first sent nothing
+-- the first sent nothing: it went by a catalog that the client had read before
+abbrev kept_before : List Entry
+kept_before = begin put ∷ read 1 catalog_place catalog_bytes
+
 abbrev kept_first : List Entry
-kept_first = locked.after 21 ++ later_try locked locked 21 ++ flat_map (λ try. try) (six_after kept_astray) ++ begin put ∷ []
+kept_first = locked.after 21 ++ later_try locked locked 21 ++ flat_map (λ try. try) (six_after kept_astray) ++ kept_before
 
 kept_first_answered : IsLegalBy kept_first (answered (Gives.Busy (Lock (node 0) 128 64 (id 1 1))))
 kept_first_answered = record {
@@ -157,6 +164,8 @@ kept_first_answered = record {
       (
         refl,
         record {
+          older = kept_before;
+          all = refl;
           rest = locked.after 21;
           last = later_try locked locked 21;
           middle = six_after kept_astray;
@@ -172,7 +181,7 @@ kept_first_answered = record {
           whole = refl;
           took = tt;
           leaves = (tt, (tt, (tt, (tt, (tt, (tt, (tt, tt)))))), tt);
-          may_be_kept = tt;
+          may_be_kept = inr (entries, (catalog_seen, (0, lit< tt, refl), sees_catalog));
         },
       ),
     ),

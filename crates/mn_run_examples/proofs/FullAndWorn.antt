@@ -1,6 +1,6 @@
 -- Want of slots and want of numbers: what a later try read of a full leaf, of counts and of a last
 -- number shows Full and Worn.
-use Rattle.std.proofs.Common.{◌≡◌, ℕ, zero, suc, ◌^◌, ◌-◌, inl, inr, List, [], ◌∷◌, ◌++◌, Some, None, refl, subst, slice_get, lit<, lit≤}
+use Rattle.std.proofs.Common.{◌≡◌, ℕ, zero, suc, ◌^◌, ◌-◌, inl, inr, true, List, [], ◌∷◌, ◌++◌, Some, None, refl, subst, slice_get, lit<, lit≤}
 use Rattle.byteorder.specs.Endian.{big_bytes}
 use Rattle.mn_base.specs.declared.op.Op.{Op}
 use Rattle.mn_base.specs.declared.op.Op.TheVariants.{Snapshot}
@@ -18,7 +18,7 @@ use Rattle.mn_law.specs.Places.{page_place, entry_place, count_place, catalog_no
 use Rattle.mn_law.specs.Needs.{NeedsSlots, WritesOld}
 use Rattle.mn_runs.specs.Seen.{Seen, seen_in}
 use Rattle.mn_law.specs.Shown.{SeesCatalog}
-use Rattle.mn_law.specs.Answers.{FreeSlots, ShowsBytes}
+use Rattle.mn_law.specs.Answers.{FreeSlots, ShowsBytes, is_one_try}
 use Rattle.mn_law.specs.Run.{IsLegalBy}
 use Rattle.mn_run_examples.proofs.TwoNodes.{node}
 use Rattle.mn_run_examples.proofs.Entries.{begin, answered, called, read, seen, catalog_of, version, pair}
@@ -102,9 +102,16 @@ full_answered = record {
   node = tt;
   step = (
     (put, refl),
-    (refl, (refl, full_try, (record { rest = []; earlier = first_try; split = refl; over = refl; begins = inl refl; is_try = refl }), lit< tt, two_slots, one_free)),
+    (refl, (refl, full_try, (record { older = begin put ∷ []; all = refl; rest = []; earlier = first_try; split = refl; over = refl; begins = inl refl; is_try = refl }), lit< tt, two_slots, one_free)),
   );
 }
+
+-- a try reads the catalog with its first call: with that of another try behind it, it is no one try
+abbrev both_tries : List Entry
+both_tries = full_try ++ read 2 (page_place (at 1 1)) leaf_bytes ++ read 1 catalog_place catalog_bytes
+
+both_are_no_try : is_one_try both_tries ≡ true → ⊥
+both_are_no_try one = absurd cc
 
 -- Worn
 
@@ -140,7 +147,7 @@ worn_answered = record {
         refl,
         worn_try,
         page_place (at 1 1),
-        (record { rest = []; earlier = first_try; split = refl; over = refl; begins = inl refl; is_try = refl }),
+        (record { older = begin put ∷ []; all = refl; rest = []; earlier = first_try; split = refl; over = refl; begins = inl refl; is_try = refl }),
         refl,
         refl,
         writes_leaf,
@@ -177,7 +184,7 @@ snapshot_first =
     called 1 (Ask.Peek 16 8) (Say.Peeked (big_bytes 8 7)) ∷ called 0 (Ask.Peek 16 8) (Say.Peeked (big_bytes 8 6)) ∷ called 1 (Ask.Peek 21504 1024) (Say.Peeked leaf_bytes)
     ∷ read 1 catalog_place worn_catalog
 
-abbrev snapshot_try : List Entry
+abbrev pub snapshot_try : List Entry
 snapshot_try =
     read 5 (count_place (node 1)) (big_bytes 8 7) ++ read 4 (count_place (node 0)) (big_bytes 8 6) ++ read 3 (page_place (at 1 1)) leaf_bytes ++ read 2 catalog_place worn_catalog
 
@@ -210,7 +217,7 @@ snapshot_answered = record {
         refl,
         snapshot_try,
         entry_place catalog_node 1,
-        (record { rest = []; earlier = snapshot_first; split = refl; over = refl; begins = inl refl; is_try = refl }),
+        (record { older = begin snapshot ∷ []; all = refl; rest = []; earlier = snapshot_first; split = refl; over = refl; begins = inr (inr (refl, refl)); is_try = refl }),
         refl,
         refl,
         writes_entry,

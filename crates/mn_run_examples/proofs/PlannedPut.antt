@@ -240,5 +240,5 @@ moved =
     called 1 (Ask.Exec (id 0 5) (part_of plan (node 1))) (Say.BadCompare 1 (big_bytes 8 2)) ∷ own (Did.Issue (id 0 5) plan) ∷ read 4 (page_place (at 1 0)) (page_bytes left)
     ++ read 3 catalog_place (catalog_of (main_entry ∷ []))
 
-moved_fails : FailsAs 2 put moved (Moved (node 1) 64 (big_bytes 8 1) (big_bytes 8 2))
+moved_fails : FailsAs 2 put [] moved (Moved (node 1) 64 (big_bytes 8 1) (big_bytes 8 2))
 moved_fails = inl (_, refl, (64, big_bytes 8 1, refl, inr (0, lit< tt, refl, refl, (seen catalog_place (catalog_of (main_entry ∷ [])), (1, lit< tt, refl), refl, lit≤ tt, refl)), refl))

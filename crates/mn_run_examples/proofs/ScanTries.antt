@@ -38,10 +38,10 @@ six = later 20 ∷ later 17 ∷ later 14 ∷ later 11 ∷ later 8 ∷ later 5 �
 abbrev tries : List Entry
 tries = later 23 ++ flat_map (λ try. try) six ++ held 4 ++ taken ++ begin scan ∷ []
 
-held_fails : (s : ℕ) → FailsAs 2 scan (later s) (Lock (node 0) 21504 1024 (id 1 1))
+held_fails : (s : ℕ) → FailsAs 2 scan taken (later s) (Lock (node 0) 21504 1024 (id 1 1))
 held_fails s = inl (_, refl, refl)
 
-six_fail : AllByRecursion (λ try. (cause : Busy) × FailsAs 2 scan try cause) six
+six_fail : AllByRecursion (λ try. (cause : Busy) × FailsAs 2 scan taken try cause) six
 six_fail = ((_, held_fails 20), ((_, held_fails 17), ((_, held_fails 14), ((_, held_fails 11), ((_, held_fails 8), ((_, held_fails 5), tt))))))
 
 -- what the scan took ends with its first leaf
@@ -82,7 +82,7 @@ scan_gave_up = record {
     (scan, refl),
     (
       refl,
-      (refl, record { rest = []; last = later 23; middle = six; first = held 4; taken = taken; split = refl; over = refl; six = refl; last_fails = held_fails 23; others_fail = six_fail; tries = refl; anew = refl; whole = tt; took = took; leaves = (later_brings_none 23, (later_brings_none 20, (later_brings_none 17, (later_brings_none 14, (later_brings_none 11, (later_brings_none 8, (later_brings_none 5, tt)))))), held_brings_none 4); may_be_kept = tt }),
+      (refl, record { older = begin scan ∷ []; all = refl; rest = []; last = later 23; middle = six; first = held 4; taken = taken; split = refl; over = refl; six = refl; last_fails = held_fails 23; others_fail = six_fail; tries = refl; anew = refl; whole = tt; took = took; leaves = (later_brings_none 23, (later_brings_none 20, (later_brings_none 17, (later_brings_none 14, (later_brings_none 11, (later_brings_none 8, (later_brings_none 5, tt)))))), held_brings_none 4); may_be_kept = tt }),
     ),
   );
 }

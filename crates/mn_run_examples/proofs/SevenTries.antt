@@ -55,9 +55,10 @@ all_ask (try ∷ tries) e =
     omega arith
 
 -- eight failed tries ask for the catalog seven times
-eight_ask : (nodes : ℕ) (op : Op) (now : List Entry) (busy : Busy) → FailedTries nodes op now busy
+eight_ask : (nodes : ℕ) (op : Op) (es now : List Entry) (busy : Busy)
+    → FailedTries nodes op es now busy
     → 7 ≤ times_asked now
-eight_ask nodes op now busy failed =
+eight_ask nodes op es now busy failed =
     let last = anew_asks failed.last (left_true (reads_anew failed.last) _ failed.anew) in
     let middle = all_ask failed.middle (right_true (reads_anew failed.last) _ failed.anew) in
     let six = failed.six in
@@ -79,7 +80,7 @@ seven_tries = locked.after 18 ++ flat_map (λ try. try) six_tries ++ kept_try
 
 seven_are_not_enough : (es : List Entry) (busy : Busy) → ShowsAnswer es seven_tries put (Gives.Busy busy)
     → ⊥
-seven_are_not_enough es busy shown = six_asked (eight_ask _ put seven_tries busy shown.1)
+seven_are_not_enough es busy shown = six_asked (eight_ask _ put es seven_tries busy shown.1)
   where
     six_asked : 7 ≤ times_asked seven_tries → ⊥
     six_asked e = absurd (omega arith)

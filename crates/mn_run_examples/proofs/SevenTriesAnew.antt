@@ -62,23 +62,24 @@ cut_twice (a ∷ z) tail (b ∷ y) s e =
 
 -- The oldest of the later tries
 
-record Oldest (nodes : ℕ) (tries : List (List Entry)) : Type 0 where
+record Oldest (nodes : ℕ) (taken : List Entry) (tries : List (List Entry)) : Type 0 where
   newer : List Entry
   try : List Entry
   cause : Busy
   split : flat_map (λ t. t) tries ≡ newer ++ try
   anew : reads_anew try ≡ true
-  fails : FailsAs nodes put try cause
+  fails : FailsAs nodes put taken try cause
   asked : length tries ≤ times_asked newer + 1
 
-oldest_of : (nodes : ℕ) (tries : List (List Entry)) → 1 ≤ length tries
+oldest_of : (nodes : ℕ) (taken : List Entry) (tries : List (List Entry)) → 1 ≤ length tries
     → list_all reads_anew tries ≡ true
-    → AllByRecursion (λ t. (cause : Busy) × FailsAs nodes put t cause) tries → Oldest nodes tries
-oldest_of nodes [] some anew fail = absurd (omega arith)
-oldest_of nodes (t ∷ []) some anew fail =
+    → AllByRecursion (λ t. (cause : Busy) × FailsAs nodes put taken t cause) tries
+    → Oldest nodes taken tries
+oldest_of nodes taken [] some anew fail = absurd (omega arith)
+oldest_of nodes taken (t ∷ []) some anew fail =
     record { newer = []; try = t; cause = fail.0.0; split = append-nil t; anew = left_true (reads_anew t) _ anew; fails = fail.0.1; asked = omega arith }
-oldest_of nodes (t ∷ (u ∷ ts)) some anew fail =
-    let more = oldest_of nodes (u ∷ ts) (omega arith) (right_true (reads_anew t) _ anew) fail.1 in
+oldest_of nodes taken (t ∷ (u ∷ ts)) some anew fail =
+    let more = oldest_of nodes taken (u ∷ ts) (omega arith) (right_true (reads_anew t) _ anew) fail.1 in
     record {
       newer = t ++ more.newer;
       try = more.try;
@@ -114,7 +115,7 @@ read_call = record { node = node 0; request = Ask.Exec (id 0 1) (part_of (read_o
 
 -- the read of the catalog alone fails by nothing
 catalog_fails_not : (m first : List Entry) (cause : Busy)
-    → reads ∷ issues ∷ [] ≡ (reads ∷ m) ++ first → FailsAs 2 put (reads ∷ m) cause → ⊥
+    → reads ∷ issues ∷ [] ≡ (reads ∷ m) ++ first → FailsAs 2 put [] (reads ∷ m) cause → ⊥
 catalog_fails_not m first cause split (inl (call, here, refused)) = by (subst (λ (c : Call). RefusedAs (seen_in m) c.node c.request c.reply cause) (sym same) refused)
   where
     same : read_call ≡ call
@@ -127,7 +128,7 @@ catalog_fails_not m first cause split (inr fault) = no_fault (seen_in (reads ∷
 -- a later try that reached no further back than the look at the leaf has read no catalog, or that
 -- alone
 small_fails_not : (k m first : List Entry) (cause : Busy)
-    → looks ∷ reads ∷ issues ∷ [] ≡ k ++ (m ++ first) → reads_anew m ≡ true → FailsAs 2 put m cause
+    → looks ∷ reads ∷ issues ∷ [] ≡ k ++ (m ++ first) → reads_anew m ≡ true → FailsAs 2 put [] m cause
     → ⊥
 small_fails_not [] [] first cause split anew fails = absurd cc
 small_fails_not [] (a ∷ m) first cause split anew fails = peeked (subst (λ (x : Entry). times_peeked (x ∷ m) ≡ 0) (sym same) (anew_peeks (a ∷ m) anew))
@@ -139,7 +140,7 @@ small_fails_not [] (a ∷ m) first cause split anew fails = peeked (subst (λ (x
     peeked e = absurd (omega arith)
 small_fails_not (a ∷ []) [] first cause split anew fails = absurd cc
 small_fails_not (a ∷ []) (b ∷ m) first cause split anew fails =
-    catalog_fails_not m first cause (subst (λ (x : Entry). reads ∷ issues ∷ [] ≡ (x ∷ m) ++ first) (sym same) tails) (subst (λ (x : Entry). FailsAs 2 put (x ∷ m) cause) (sym same) fails)
+    catalog_fails_not m first cause (subst (λ (x : Entry). reads ∷ issues ∷ [] ≡ (x ∷ m) ++ first) (sym same) tails) (subst (λ (x : Entry). FailsAs 2 put [] (x ∷ m) cause) (sym same) fails)
   where
     tails : reads ∷ issues ∷ [] ≡ (b ∷ m) ++ first
     tails = cc
@@ -179,7 +180,8 @@ long_fails_not w m first split anew none = by (cut_twice w (looks ∷ reads ∷ 
 seven_are_not_enough : (es : List Entry) (busy : Busy) → ShowsAnswer es seven_tries put (Gives.Busy busy)
     → ⊥
 seven_are_not_enough es busy (given_up, failed) =
-    let oldest = oldest_of 2 failed.middle (let six = failed.six in omega arith) (right_true (reads_anew failed.last) _ failed.anew) failed.others_fail in
+    let oldest = oldest_of 2 [] failed.middle (let six = failed.six in omega arith) (right_true (reads_anew failed.last) _ failed.anew)
+    (subst (λ (taken : List Entry). AllByRecursion (λ t. (cause : Busy) × FailsAs 2 put taken t cause) failed.middle) failed.whole failed.others_fail) in
     let before : List Entry = failed.rest ++ failed.last in
     let whole : seven_tries ≡ before ++ flat_map (λ t. t) failed.middle ++ failed.first =
     failed.split ∙ (ap (λ (l : List Entry). before ++ flat_map (λ t. t) failed.middle ++ failed.first ++ l) failed.whole ∙ append-nil (before ++ flat_map (λ t. t) failed.middle ++ failed.first)) in
@@ -198,7 +200,7 @@ seven_are_not_enough es busy (given_up, failed) =
     let none : times_asked failed.first ≡ 0 = omega arith in
     by (before ++ oldest.newer) oldest.try failed.first oldest.cause oldest.anew oldest.fails none (cut_twice newest (looks ∷ reads ∷ issues ∷ []) (before ++ oldest.newer) (oldest.try ++ failed.first) (sym seven_are ∙ parts))
   where
-    by : (y m first : List Entry) (cause : Busy) → reads_anew m ≡ true → FailsAs 2 put m cause
+    by : (y m first : List Entry) (cause : Busy) → reads_anew m ≡ true → FailsAs 2 put [] m cause
         → times_asked first ≡ 0
         → ((k : List Entry) × (y ≡ newest ++ k) × (looks ∷ reads ∷ issues ∷ [] ≡ k ++ (m ++ first)))
         ⊎ ((w : List Entry) × (m ++ first ≡ w ++ looks ∷ reads ∷ issues ∷ [])) → ⊥

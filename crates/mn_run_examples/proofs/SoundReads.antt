@@ -13,7 +13,7 @@ use Rattle.mn_page.proofs.Spelled.{page_spelled_once}
 use Rattle.mn_runs.specs.Seen.{Place, Seen}
 use Rattle.mn_law.specs.Places.{count_place}
 use Rattle.mn_law.specs.Shown.{SeesCatalog, SeesPage}
-use Rattle.mn_law.specs.Answers.{Reached, is_wrong_height, is_copied_root, IsPageAtFault, IsAtFault, MeetsBadPage, MeetsBadAddr, MeetsBadPlace, MeetsFault}
+use Rattle.mn_law.specs.Answers.{IsKeyOf, Reached, is_wrong_height, is_copied_root, IsPageAtFault, IsAtFault, MeetsBadPage, MeetsBadAddr, MeetsBadPlace, MeetsFault}
 use Rattle.mn_law.proofs.Shows.{page_is_no_catalog}
 use Rattle.mn_run_examples.proofs.OneCatalog.{one_catalog}
 use Rattle.mn_run_examples.proofs.Scans.{entries, m2}
@@ -80,8 +80,8 @@ read_not_at_fault key height seq none (inr (page, spelled, fault, number)) =
     not_at_fault key height none (subst (λ (p : Page). IsPageAtFault entries put key height p) (sym (page_spelled_once leaf page leaf_spelled.0 spelled.0 (sym leaf_spelled.1 ∙ spelled.1))) fault)
 
 no_bad_page : (seens : List Seen) → AreSound seens → (addr : Addr) (seq : ℕ)
-    → MeetsBadPage seens put addr seq → ⊥
-no_bad_page seens sound addr seq (s, key, height, es, has, (catalog, has_catalog, sees, reached), place, fault) =
+    → MeetsBadPage seens put (IsKeyOf put []) addr seq → ⊥
+no_bad_page seens sound addr seq (s, key, height, es, has, (catalog, has_catalog, sees, reached), place, fault, is_key) =
     let root = only_root seens sound key reached in
     let is = the_entries catalog es (sound catalog has_catalog) sees in
     let fault_there = subst (λ (l : List CatEntry). IsAtFault l put key height s.bytes seq) (sym is) fault in
@@ -93,8 +93,8 @@ no_bad_page seens sound addr seq (s, key, height, es, has, (catalog, has_catalog
     by (inr same) none f = page_is_no_catalog addr (ap (λ (x : Seen). x.place) same ∙ place)
 
 no_bad_addr : (seens : List Seen) → AreSound seens → (addr : Addr) (seq : ℕ)
-    → MeetsBadAddr 2 seens put addr seq → ⊥
-no_bad_addr seens sound addr seq (key, height, es, (catalog, has, sees, reached), far, number) =
+    → MeetsBadAddr 2 seens put (IsKeyOf put []) addr seq → ⊥
+no_bad_addr seens sound addr seq (key, height, es, (catalog, has, sees, reached), far, number, is_key) =
     let node_is : addr.node.0 ≡ 1 = ap (λ (a : Addr). a.node.0) (only_root seens sound key reached).0 in
     absurd (omega arith)
 
@@ -112,8 +112,8 @@ no_bad_place seens sound addr seq (s, has, inl (place, none), is, number) = by (
     by (inl same) = page_is_no_catalog (at 1 1) (sym place ∙ ap (λ (x : Seen). x.place) (sym same))
     by (inr same) = none entries (subst (λ (x : Seen). SeesCatalog x entries) same sees_catalog) (lit< tt, tt)
 
-pub no_fault : (seens : List Seen) → AreSound seens → (busy : Busy) → MeetsFault 2 seens put busy
-    → ⊥
+pub no_fault : (seens : List Seen) → AreSound seens → (busy : Busy)
+    → MeetsFault 2 seens put (IsKeyOf put []) busy → ⊥
 no_fault seens sound (Lock node start length holder) fault = fault
 no_fault seens sound (Moved node start expected found) fault = fault
 no_fault seens sound (Forced tid) fault = fault

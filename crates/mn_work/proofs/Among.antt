@@ -14,12 +14,12 @@ use Rattle.mn_page.specs.Forest.{heads_in}
 use Rattle.mn_page.specs.Grammar.{SpellsPage, height_of}
 use Rattle.mn_path.specs.Walk.{child_from, front_of, is_on_path}
 use Rattle.mn_runs.specs.Seen.{Seen}
-use Rattle.mn_law.specs.Answers.{MeetsFault, ReachesAddr}
+use Rattle.mn_law.specs.Answers.{ReachesAddr}
 use Rattle.mn_txn.specs.declared.seen.SeenPage.{SeenPage}
 use Rattle.mn_work.specs.Among.{AreBrought, WalksAmong}
 use Rattle.mn_work.specs.Bodies.{body_child}
 use Rattle.mn_txn.specs.Seen.{seen_at}
-use Rattle.mn_work.specs.Walks.{IsAbove, height_below}
+use Rattle.mn_work.specs.Walks.{IsAbove, MeetsFor, height_below}
 use Rattle.mn_plans.proofs.Grown.{addr_is}
 use Rattle.mn_work.proofs.Bodies.{is_inner}
 use Rattle.mn_work.proofs.Walks.{at_fault, bad_page, goes_below, serves_named}
@@ -30,7 +30,7 @@ module _ (nodes : ℕ) (seens : List Seen) (op : Op) (entries : List CatEntry) (
   -- the walk doesn't go on at the page
   pub page_is_bad : is_on_path (parents_of (heads_in entries)) version.0 key above (front_of page) ≡ false
       → WalksAmong seens op entries version key seen.addr above → AreBrought seens (seen ∷ [])
-      → MeetsFault nodes seens op (Path seen.addr page.seq)
+      → MeetsFor nodes seens op key (Path seen.addr page.seq)
   page_is_bad off (named, reaches) brought =
       bad_page nodes seens op entries key seen.addr (height_below above) reaches seen.bytes page brought.0 spells
       (at_fault entries op version.0 key above page named is off)

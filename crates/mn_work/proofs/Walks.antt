@@ -21,10 +21,10 @@ use Rattle.mn_page.specs.Holds.{page_covers, page_serves}
 use Rattle.mn_path.specs.Walk.{child_from, front_of, is_live, is_on_path, may_stand, max_height}
 use Rattle.mn_runs.specs.Seen.{Seen}
 use Rattle.mn_law.specs.Shown.{ServesNamed}
-use Rattle.mn_law.specs.Answers.{Reached, ReachesAddr, is_wrong_height, IsPageAtFault, MeetsFault}
+use Rattle.mn_law.specs.Answers.{Reached, ReachesAddr, is_wrong_height, IsPageAtFault}
 use Rattle.mn_law.specs.Answers.Reached.{by_child}
 use Rattle.mn_work.specs.Seen.{SpellsNone}
-use Rattle.mn_work.specs.Walks.{IsAbove, height_below, seen_page}
+use Rattle.mn_work.specs.Walks.{IsAbove, MeetsFor, height_below, seen_page}
 
 -- one of two fails
 pub either : (x y : Bool) → (x && y) ≡ false → (x ≡ false) ⊎ (y ≡ false)
@@ -139,20 +139,20 @@ module _ (nodes : ℕ) (seens : List Seen) (op : Op) (entries : List CatEntry) (
     (addr : Addr) (height : Option ℕ) (reaches : ReachesAddr seens op entries key addr height) where
   -- bytes that are no page
   pub no_page : (bytes : List ℕ) → Contains seens (seen_page addr bytes) → SpellsNone bytes
-      → MeetsFault nodes seens op (Path addr 0)
+      → MeetsFor nodes seens op key (Path addr 0)
   no_page bytes has none =
-      inl (seen_page addr bytes, key, height, entries, has, reaches, refl, inl (none, refl))
+      inl (seen_page addr bytes, key, height, entries, has, reaches, refl, inl (none, refl), refl)
 
   -- a page at fault
   pub bad_page : (bytes : List ℕ) (page : Page) → Contains seens (seen_page addr bytes)
       → SpellsPage bytes page → IsPageAtFault entries op key height page
-      → MeetsFault nodes seens op (Path addr page.seq)
+      → MeetsFor nodes seens op key (Path addr page.seq)
   bad_page bytes page has spells fault =
-      inl (seen_page addr bytes, key, height, entries, has, reaches, refl, inr (page, spells, fault, refl))
+      inl (seen_page addr bytes, key, height, entries, has, reaches, refl, inr (page, spells, fault, refl), refl)
 
   -- an address on a node that there is not
-  pub no_node : nodes ≤ addr.node.0 → MeetsFault nodes seens op (Path addr 0)
-  no_node off = inr (inl (key, height, entries, reaches, off, refl))
+  pub no_node : nodes ≤ addr.node.0 → MeetsFor nodes seens op key (Path addr 0)
+  no_node off = inr (inl (key, height, entries, reaches, off, refl, refl))
 
   -- the walk goes on at the child
   pub goes_below : (bytes : List ℕ) (page : Page) (level : ℕ) (first : Addr) (rest : List Child)

@@ -56,7 +56,7 @@ use Rattle.mn_work.specs.Knows.{KeepsKnown}
 use Rattle.mn_work.specs.Scans as scans
 use Rattle.mn_work.specs.Walks.{Admits, IsAbove, is_later}
 use Rattle.mn_work.specs.Works.{AsksCount, AsksCountFor, AsksPage, AsksPageFor, BeginsJob, BeginsBy, BeginsOn, GetTakes, GoesOnBy, GoesOnFrom, MayStart, version_name}
-use Rattle.mn_work.specs.Works.{HasRightSteps, IsJobIn, IsJobOf, IsNewChild, IsStartable, JobCounts}
+use Rattle.mn_work.specs.Works.{HasRightSteps, IsJobIn, IsJobOf, IsNewChild, IsStartable, IsToAsk, JobCounts}
 use Rattle.mn_work.specs.Works.{JobTakes, JobWants, KeepsOp, StartsBy, StartsOn, TakesCatalog, TakesCountBytes, TakesPageBytes}
 use Rattle.mn_work.specs.Works.{WantsFrom, WantsNext, counts_of, lacks_catalog, lacks_for, lone_key, retried, retried_job}
 
@@ -302,7 +302,8 @@ pub record WentOn (known : Known) (before after : Work) (next : Next) : Type 0 w
 -- it asks for the catalog, and may begin on a new one; or it goes on
 abbrev pub AsksOrGoes : Known → Work → Work → Next → Type 0
 AsksOrGoes known before after next =
-    ((next ≡ Next.Catalog) × (after ≡ before) × IsStartable before.op before.job)
+    ((next ≡ Next.Catalog) × (after ≡ before) × IsStartable before.op before.job
+    × IsToAsk known.catalog before.job)
     ⊎ WentOn known before after next
 
 module _ (known new : Known) (before after : Work) (next : Next) (keeps : KeepsKnown known new)
@@ -317,7 +318,7 @@ module _ (known new : Known) (before after : Work) (next : Next) (keeps : KeepsK
   asks_or_goes wants = by before.job refl wants
     where
       waits : (none : new.catalog ≡ None) → next ≡ Next.Catalog → after ≡ before → AsksOrGoes new before after next
-      waits none asks stays = inl (asks, stays, startable new before.op before.job none kept_now)
+      waits none asks stays = inl (asks, stays, startable new before.op before.job none kept_now, inr none)
 
       begins : before.job ≡ at.Start → (begun : Work) → BeginsBy new before begun → GoesOnBy new begun after next
           → AsksOrGoes new before after next
@@ -332,7 +333,7 @@ module _ (known new : Known) (before after : Work) (next : Next) (keeps : KeepsK
           })
 
       by : (job : Job) → before.job ≡ job → WantsFrom new before after job next → AsksOrGoes new before after next
-      by at.Start start (inl asks) = inl (asks.0, asks.1, subst (IsStartable before.op) (sym start) tt)
+      by at.Start start (inl asks) = inl (asks.0, asks.1, subst (IsStartable before.op) (sym start) tt, inl start)
       by at.Start start (inr goes) = begins start goes.0 goes.1 goes.2
       by (at.Get d) job (inl asks) = waits asks.2 asks.0 asks.1
       by (at.Get d) job (inr goes) = goes_from goes
@@ -479,11 +480,16 @@ module _ (known new : Known) (before after : Work) (keeps : KeepsKnown known new
     (is : IsJobOf known before) (op : KeepsOp before after) where
   -- where it asks for the catalog, it stands as it stood, and may begin on a new one
   pub catalog_asked : WantsNext new before after Next.Catalog
-      → (after ≡ before) × IsStartable after.op after.job
+      → (after ≡ before) × IsStartable after.op after.job × IsToAsk new.catalog after.job
   catalog_asked wants = by (asks_or_goes known new before after Next.Catalog keeps is wants)
     where
-      by : AsksOrGoes new before after Next.Catalog → (after ≡ before) × IsStartable after.op after.job
-      by (inl asks) = (asks.1, subst (λ (w : Work). IsStartable w.op w.job) (sym asks.1) asks.2)
+      by : AsksOrGoes new before after Next.Catalog
+          → (after ≡ before) × IsStartable after.op after.job × IsToAsk new.catalog after.job
+      by (inl asks) = (
+        asks.1,
+        subst (λ (w : Work). IsStartable w.op w.job) (sym asks.1) asks.2,
+        subst (λ (w : Work). IsToAsk new.catalog w.job) (sym asks.1) asks.3,
+      )
       by (inr on) = absurd (none_wanted new (is_later on.begun.failed) on.begun.op on.begun.job after.job on.goes.1)
 
   -- where it asks for a page

@@ -9,11 +9,11 @@ use Rattle.mn_base.specs.declared.answer.Busy.{Busy}
 use Rattle.mn_page.specs.declared.entry.CatEntry.{CatEntry}
 use Rattle.mn_page.specs.Forest.{heads_in}
 use Rattle.mn_runs.specs.Seen.{Seen}
-use Rattle.mn_law.specs.Answers.{MeetsFault, ReachesAddr}
+use Rattle.mn_law.specs.Answers.{ReachesAddr}
 use Rattle.mn_txn.specs.declared.seen.SeenPage.{SeenPage}
 use Rattle.mn_work.specs.declared.causes.Met.{Met}
 use Rattle.mn_work.specs.declared.causes.Met.TheVariants as met
-use Rattle.mn_work.specs.Walks.{height_below, seen_page}
+use Rattle.mn_work.specs.Walks.{MeetsFor, height_below, seen_page}
 
 -- reads brought the pages
 abbrev pub AreBrought : List Seen → List SeenPage → Type 0
@@ -31,9 +31,9 @@ abbrev pub IsHigh : Met → Type 0
 IsHigh (met.Below addr height) = 1 ≤ height
 IsHigh other = ⊤
 
--- a fault is one of the reads; and below an inner page the key leads on
+-- a fault is one of the reads, on the way of the key; and below an inner page the key leads on
 abbrev pub IsMet : ℕ → List Seen → Op → List CatEntry → List ℕ → Met → Type 0
-IsMet nodes seens op entries key (met.Fault busy) = MeetsFault nodes seens op busy
+IsMet nodes seens op entries key (met.Fault busy) = MeetsFor nodes seens op key busy
 IsMet nodes seens op entries key met.End = ⊤
 IsMet nodes seens op entries key (met.Below addr height) =
     ReachesAddr seens op entries key addr (height_below (Some height))
@@ -56,4 +56,4 @@ abbrev pub FaultIsMet : ℕ → List CatEntry → VersionNo → List ℕ → Add
     → Option Busy → Type 0
 FaultIsMet nodes entries version key root pages found =
     (seens : List Seen) (op : Op) → WalksAmong seens op entries version key root None
-    → AreBrought seens pages → IfSome found (MeetsFault nodes seens op)
+    → AreBrought seens pages → IfSome found (MeetsFor nodes seens op key)

@@ -82,7 +82,7 @@ abbrev pub WantsNext : ℕ → Bool → ScanState → Option Next → Type 0
 WantsNext nodes later s None = s.ended ≡ true
 WantsNext nodes later s (Some (Next.Page addr peek)) =
     IsNeeded s addr × (addr.node.0 < nodes) × (peek ≡ (not later && not (may_be_leaf s.above)))
-WantsNext nodes later s (Some (Next.Fails cause)) = ⊤
+WantsNext nodes later s (Some (Next.Fails cause)) = later ≡ true → s.ended ≡ false
 WantsNext nodes later s (Some next) = ⊥
 
 -- in a later try it fails only at an address on a node that there is not

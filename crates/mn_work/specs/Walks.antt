@@ -49,10 +49,15 @@ abbrev pub WalkComesTo : ℕ → List Seen → Op → List CatEntry → List ℕ
 WalkComesTo failed seens op entries key addr above =
     IsAbove above × IfLater failed (ReachesAddr seens op entries key addr (height_below above))
 
--- why a try failed: of a later one a cause is shown, if one is told
-abbrev pub FailsBy : ℕ → ℕ → List Seen → Op → Option Busy → Type 0
-FailsBy nodes failed seens op cause =
-    MatchOption cause ⊤ (λ busy. IfLater failed (MeetsFault nodes seens op busy))
+-- the reads met a fault on the way of this key
+abbrev pub MeetsFor : ℕ → List Seen → Op → List ℕ → Busy → Type 0
+MeetsFor nodes seens op key busy = MeetsFault nodes seens op (λ other. other ≡ key) busy
+
+-- why a try failed: of a later one a cause is shown, on the way of one of these keys, if one is
+-- told
+abbrev pub FailsBy : ℕ → ℕ → List Seen → Op → (List ℕ → Type 0) → Option Busy → Type 0
+FailsBy nodes failed seens op IsKey cause =
+    MatchOption cause ⊤ (λ busy. IfLater failed (MeetsFault nodes seens op IsKey busy))
 
 -- a later try, by how many failed before it
 abbrev pub is_later : ℕ → Bool

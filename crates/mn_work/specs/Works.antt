@@ -114,6 +114,10 @@ IsStartable op at.Start = ⊤
 IsStartable (Scan name low high limit) (at.Scan s) = IsAtRoot s
 IsStartable op job = ⊥
 
+-- a job that hasn't begun, or has no catalog to go by, is still to ask for one
+abbrev pub IsToAsk : Option (List CatEntry) → Job → Type 0
+IsToAsk catalog job = (job ≡ at.Start) ⊎ (catalog ≡ None)
+
 -- the kept catalog admits the operation
 abbrev pub MayStart : Known → Work → Type 0
 MayStart known w =

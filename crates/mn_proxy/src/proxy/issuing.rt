@@ -22,7 +22,8 @@ ghost use Rattle.mn_proxy.specs.Turns.{IsSoundTurn, KeepsSelf, MayIssue, TurnAgr
 ghost use Rattle.mn_proxy.specs.Turns.{read_mini, with_known};
 ghost use Rattle.mn_proxy.specs.Turn.{turned};
 ghost use Rattle.mn_work.specs.Walks.{is_later};
-ghost use Rattle.mn_work.specs.Works.{IsJobOf, IsStartable, KeepsOp, StaysLast, WantsNext};
+ghost use Rattle.mn_work.specs.Works.{IsJobOf, IsStartable, IsToAsk, KeepsOp, StaysLast};
+ghost use Rattle.mn_work.specs.Works.{WantsNext};
 ghost use Rattle.mn_work.specs.Works.{new_work};
 
 use super::{PEEKS, Proxy};
@@ -152,6 +153,7 @@ impl Proxy {
         requires few { work.failed < max_tries }
         requires job { IsJobOf self.old.known work }
         requires startable { IsStartable work.op work.job }
+        requires asks { IsToAsk self.old.known.catalog work.job }
         ensures sound { IfOk (turned self.new.work result) (IsSoundTurn self.new.known) }
         ensures turns { (es : List Entry) → IsOwn es self.old → IsAtRest es self.old.known work
             → IfOk (turned self.new.work result) (TurnAgrees es self.new) }

@@ -5,8 +5,8 @@ use Rattle.mn_base.specs.declared.answer.Busy.TheVariants.{Path}
 use Rattle.mn_page.specs.declared.page.Page.{Page}
 use Rattle.mn_page.specs.Grammar.{IsFree, SpellsPage, height_of}
 use Rattle.mn_path.specs.Walk.{FrontState, is_on_path}
-use Rattle.mn_law.specs.Answers.{MeetsFault, ReachesAddr}
-use Rattle.mn_work.specs.Walks.{height_below}
+use Rattle.mn_law.specs.Answers.{ReachesAddr}
+use Rattle.mn_work.specs.Walks.{MeetsFor, height_below}
 use Rattle.mn_work.proofs.Among.{page_is_bad, page_leads}
 use Rattle.mn_work.proofs.causes.met_page.Goals as goal
 
@@ -31,7 +31,7 @@ returns-then-not-is_on_path-clause-met c nodes seens op walks brought =
     let page = c.in-Ok-Some.page in
     let spells = spelled c.args.seen.now.bytes c.padded.result c.in-Ok-Some.field-0 page c.padded.ensures c.in-Ok-Some.field-0-is c.in-Ok-Some.ensures.read in
     let off = on_path _ c.tree.result.now c.args.version.0 c.args.key.now c.args.above c.of_ref.result _ c.is_on_path.result false c.tree.ensures c.of_ref.ensures c.is_on_path.ensures c.if-not-is_on_path.true in
-    subst (λ (b : Busy). MeetsFault nodes seens op b)
+    subst (λ (b : Busy). MeetsFor nodes seens op c.args.key.now b)
     (sym (c.path_fault-then-not-is_on_path.ensures ∙ ap (Path c.args.seen.now.addr) c.seq.ensures))
     (page_is_bad nodes seens op c.args.kept.now c.args.version c.args.key.now c.args.seen.now c.args.above page c.requires.above spells off walks brought)
 

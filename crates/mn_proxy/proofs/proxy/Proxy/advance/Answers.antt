@@ -50,6 +50,11 @@ read_catalog-requires-clause-startable c =
     (catalog_asked c.args.self.now.known c.want.new.self.known c.args.work c.want.new.work c.want.ensures.kept c.requires.job c.want.ensures.op
     (subst (λ (n : Next). WantsNext c.want.new.self.known c.args.work c.want.new.work n) c.in-Catalog.is c.in_ok-want.ensures.wants)).1
 
+pub read_catalog-requires-clause-asks : goal.read_catalog-requires-clause-asks
+read_catalog-requires-clause-asks c =
+    (catalog_asked c.args.self.now.known c.want.new.self.known c.args.work c.want.new.work c.want.ensures.kept c.requires.job c.want.ensures.op
+    (subst (λ (n : Next). WantsNext c.want.new.self.known c.args.work c.want.new.work n) c.in-Catalog.is c.in_ok-want.ensures.wants)).2
+
 pub returns-in-Catalog-clause-turns : goal.returns-in-Catalog-clause-turns
 returns-in-Catalog-clause-turns c = λ es own rest.
     c.read_catalog.ensures.turns es (own_self es c.args.self.now c.want.new.self c.want.ensures.same c.want.ensures.kept own)

@@ -3,7 +3,7 @@ use Rattle.mn_proxy.specs.Turn.{turned}
 use Rattle.mn_proxy.specs.contracts.proxy.Proxy.{the_view}
 use Rattle.mn_proxy.proofs.Retrying.{own_forgotten_as, retried_as}
 use Rattle.mn_proxy.proofs.Measure.{same_goes}
-use Rattle.std.proofs.Common.{ap, ◌∙◌}
+use Rattle.std.proofs.Common.{ap, inr, refl, ◌∙◌}
 use Rattle.mn_work.specs.declared.known.Known.{Known}
 use Rattle.mn_work.specs.declared.work.Work.{Work}
 use Rattle.mn_proxy.specs.State.{ProxyState}
@@ -11,6 +11,9 @@ use Rattle.mn_work.specs.Walks.{is_later}
 use Rattle.mn_work.specs.Works.{retried}
 use Rattle.mn_proxy.proofs.Kept.{catalog_gone, later_now}
 use Rattle.mn_proxy.proofs.proxy.Proxy.retry.Goals as goal
+
+pub read_catalog-requires-clause-asks : goal.read_catalog-requires-clause-asks
+read_catalog-requires-clause-asks c = inr refl
 
 pub returns-clause-turns : goal.returns-clause-turns
 returns-clause-turns c = λ es own may.
