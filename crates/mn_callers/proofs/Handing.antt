@@ -17,7 +17,6 @@ use Rattle.mn_io.specs.Faults.{Rose}
 use Rattle.mn_cell.specs.Station.{RestartsKeepRecordsAsAsked, unasked}
 use Rattle.mn_mini.specs.declared.record.Record.{Record}
 use Rattle.mn_mini.specs.Node.{held_parts}
-use Rattle.mn_node.specs.Restart.{DamageNames}
 use Rattle.mn_node.specs.State.{NodeState}
 use Rattle.mn_script.specs.Script.{Script}
 use Rattle.mn_runs.specs.declared.entry.Entry.{Entry}
@@ -31,7 +30,7 @@ use Rattle.mn_law.specs.Run.{RunsFollowProtocol}
 use Rattle.mn_runs.specs.Protocol.{entries_of}
 use Rattle.mn_callers.specs.Causes.{IsCaused}
 use Rattle.mn_callers.specs.Ended.{IsEnded}
-use Rattle.mn_callers.specs.Failed.{FailsSo, HasCause, IsAmong, IsRunOn, unasked_by_others}
+use Rattle.mn_callers.specs.Failed.{IsOtherList, FailsSo, HasCause, IsAmong, IsRunOn, unasked_by_others}
 use Rattle.mn_callers.specs.Plays.{NamesGiven}
 use Rattle.mn_callers.specs.Settled.{AreUpAndFree, records_at}
 use Rattle.mn_callers.specs.Trace.{AreHandedBack, IsQuiet, IsTrace, StartsSound, start_on}
@@ -67,7 +66,7 @@ within_at (x ∷ xs) (suc k) below = within_at xs k (omega arith)
 
 -- Nodes that are none of the run's
 
-none_beyond : (start : Start) (n : NodeNo) → start_nodes start ≤ n.0 → (past : List Entry) → FollowsProtocol start past → node_entries n past ≡ []
+pub none_beyond : (start : Start) (n : NodeNo) → start_nodes start ≤ n.0 → (past : List Entry) → FollowsProtocol start past → node_entries n past ≡ []
 none_beyond start n beyond [] follows = refl
 none_beyond start n beyond (e ∷ past) follows =
     ap (λ (b : Bool). if b then e ∷ node_entries n past else node_entries n past) (elsewhere e.node follows.1.at_node) ∙ none_beyond start n beyond past follows.0
@@ -197,11 +196,8 @@ module _ {D : Type 0} (state : D → DiskState) (faults : D → ℕ) (records : 
         λ was. caused.1 ((named.is_honest n.0 among.before among.was).1 was),
         sym has.down ∙ down,
         ⊎_elim (λ absent. inl absent)
-            (λ other. inr (
-              other.0,
-              subst (λ (pending : Option Record). DamageNames other.0 (reverse (records_of start (entries_of log) n)) pending place kept found) (has.pending down)
-                  (subst (λ (rs : List Record). DamageNames other.0 rs s.node.pending place kept found) these other.1),
-            )) caused.3,
+            (λ other. inr (subst (λ (pending : Option Record). IsOtherList (reverse (records_of start (entries_of log) n)) pending place kept found) (has.pending down)
+            (subst (λ (rs : List Record). IsOtherList rs s.node.pending place kept found) these other))) caused.3,
       )
 
   pub fails_so : (cause : RunCause) → played ≡ Err cause → (cause ≡ NoMemory → ⊥) → FailsSo state faults script given nodes log cause

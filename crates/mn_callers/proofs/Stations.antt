@@ -1,5 +1,5 @@
 -- What a call did to its station's node, by what the station made before it and after it.
-use Rattle.std.proofs.Common.{◌≡◌, ◌≢◌, ℕ, ◌+◌, ◌≤◌, ◌⊎◌, Bool, true, false, List, [], ◌∷◌, reverse, slice_get, slice_set, Option, Some, None, refl, sym, ap, ◌∙◌, subst, arith, if◌then◌else◌}
+use Rattle.std.proofs.Common.{◌≡◌, ◌≢◌, ℕ, ◌+◌, ◌≤◌, ◌⊎◌, Bool, true, false, List, [], ◌∷◌, reverse, slice_get, slice_set, Option, Some, None, inl, inr, ⊎_elim, refl, sym, ap, ◌∙◌, subst, arith, if◌then◌else◌}
 use Rattle.std.specs.Option.{option_map_or}
 use Rattle.mn_base.specs.declared.gate.StopAt.{StopAt}
 use Rattle.mn_base.specs.declared.ids.ClientNo.{ClientNo}
@@ -16,7 +16,9 @@ use Rattle.mn_mini.specs.Flat.{Mismatched, part_mismatch_from}
 use Rattle.mn_mini.specs.Node.{Clash, Response, after_compares, after_locks, answer, clash_of, has_forced, has_voted, held_parts, space_of, with_added}
 use Rattle.mn_node.specs.declared.restart.RestartError.{RestartError}
 use Rattle.mn_node.specs.declared.restart.RestartError.TheVariants as error
-use Rattle.mn_node.specs.Restart.{AreAbsent, FailsRestart, DamageNames, IsNoLog}
+use Rattle.mn_node.specs.Restart.{AreAbsent, FailsRestart, IsNoLog}
+use Rattle.mn_node.specs.Node.{listed}
+use Rattle.mn_node.specs.State.{left_behind_list}
 use Rattle.mn_cell.specs.Calls.{EndsBoth, IsUndamaged, entry_at, what_said}
 use Rattle.mn_cell.specs.Station.{HasMadeEntries, IsAsBefore, RoseBy, StationState, unasked, unasked_in}
 use Rattle.mn_cell.proofs.Owed.{newest_entry}
@@ -29,7 +31,7 @@ use Rattle.mn_runs.specs.Nodes.{added_by, is_down, node_records, stopped_request
 use Rattle.mn_runs.specs.Protocol.{Start, base_at, start_records, entries_of}
 use Rattle.mn_callers.specs.Causes.{IsCaused, cause_of}
 use Rattle.mn_callers.specs.Doings.{HasAnswered, IsAnswer, IsDownAs, OthersStay}
-use Rattle.mn_callers.specs.Failed.{closer, unasked_by_others}
+use Rattle.mn_callers.specs.Failed.{IsOtherList, closer, unasked_by_others}
 use Rattle.mn_callers.specs.Settled.{records_at}
 use Rattle.mn_callers.proofs.Turns.{by_flag}
 
@@ -181,7 +183,7 @@ module _ {D : Type 0} (state : D → DiskState) (faults : D → ℕ) (start : St
             (record { station = s'; at = new_at }, subst (λ (l : List Entry). RoseBy (unasked_by_others l + 1) (before n.0) (faults s'.node.disk)) (sym said) (rose_less (unasked (e ∷ es)) (unasked_by_others (e ∷ es) + 1) (before n.0) (faults s'.node.disk) le m))
 
       -- why a restart failed
-      pub caused : IsAsBefore s s' → s.node.down ≡ true → (err : RestartError) → FailsRestart state faults s.node.disk s'.node.disk s.node.records s.node.pending err
+      pub caused : IsAsBefore s s' → s.node.down ≡ true → (err : RestartError) → FailsRestart state faults s.node.disk s'.node.disk (listed s.node.cut s.node.records) (left_behind_list s.node.cutting s.node.pending) err
           → (err ≡ error.Fault → RoseBy (unasked (entries_of s'.list) + 1) (before n.0) (faults s'.node.disk)) → (honest n.0 → IsUndamaged err) → IsCaused faults before honest after (cause_of n err)
       caused same down error.Fault cause fault undamaged =
           let es' = entries_of s'.list in
@@ -193,7 +195,8 @@ module _ {D : Type 0} (state : D → DiskState) (faults : D → ℕ) (start : St
             record { station = s'; at = new_at },
             undamaged,
             is_down',
-            subst (λ (p : Option Record). (AreAbsent kept found × IsNoLog place) ⊎ ((bodies : List (List ℕ)) × DamageNames bodies s'.node.records p place kept found)) (sym pending)
-                (subst (λ (l : List Record). (AreAbsent kept found × IsNoLog place) ⊎ ((bodies : List (List ℕ)) × DamageNames bodies l s.node.pending place kept found)) (sym same.records) cause.1),
+            subst (λ (p : Option Record). (AreAbsent kept found × IsNoLog place) ⊎ IsOtherList s'.node.records p place kept found) (sym pending)
+                (subst (λ (l : List Record). (AreAbsent kept found × IsNoLog place) ⊎ IsOtherList l s.node.pending place kept found) (sym same.records)
+                (⊎_elim (λ absent. inl absent) (λ other. inr (record { cut = s.node.cut; cutting = s.node.cutting; begins = other.0; bodies = other.1.0; names = other.1.1 })) cause.1)),
           )
       caused same down error.NoMemory cause fault undamaged = tt

@@ -6,9 +6,9 @@ use Rattle.mn_cell.specs.declared.trace.RunCause.TheVariants.{Disk, Damaged, NoM
 use Rattle.mn_cell.specs.Station.{RoseBy, StationState}
 use Rattle.mn_node.specs.declared.restart.RestartError.{RestartError}
 use Rattle.mn_node.specs.declared.restart.RestartError.TheVariants as error
-use Rattle.mn_node.specs.Restart.{AreAbsent, IsNoLog, DamageNames}
+use Rattle.mn_node.specs.Restart.{AreAbsent, IsNoLog}
 use Rattle.mn_runs.specs.Protocol.{entries_of}
-use Rattle.mn_callers.specs.Failed.{unasked_by_others}
+use Rattle.mn_callers.specs.Failed.{IsOtherList, unasked_by_others}
 
 -- the station of this number
 pub record HasStation {D : Type 0} (stations : List (StationState D)) (n : NodeNo) : Type 0 where
@@ -27,8 +27,7 @@ IsCaused faults before honest stations (Disk n) =
 IsCaused faults before honest stations (Damaged n place kept found) =
     (has : HasStation stations n) × (honest n.0 → ⊥) × (has.station.node.down ≡ true)
     × ((AreAbsent kept found × IsNoLog place)
-    ⊎ ((bodies : List (List ℕ))
-    × DamageNames bodies has.station.node.records has.station.node.pending place kept found))
+    ⊎ IsOtherList has.station.node.records has.station.node.pending place kept found)
 IsCaused faults before honest stations NoMemory = ⊤
 
 -- the cause of a restart that failed so

@@ -1,6 +1,6 @@
 -- Why a run fails. Lists of entries stand newest first.
-use Rattle.std.specs.Prelude.{ℕ, ◌+◌, ◌≡◌, ◌⊎◌, List, [], ◌∷◌, length, reverse, true, Some}
-use Rattle.std.specs.Prelude.{Option, slice_get, if◌then◌else◌, ⊤}
+use Rattle.std.specs.Prelude.{ℕ, ◌+◌, ◌≡◌, ◌⊎◌, Bool, List, [], ◌∷◌, length, reverse, true}
+use Rattle.std.specs.Prelude.{Option, Some, slice_get, if◌then◌else◌, ⊤}
 use Rattle.mn_base.specs.declared.ids.ClientNo.{ClientNo}
 use Rattle.mn_base.specs.declared.ids.NodeNo.{NodeNo}
 use Rattle.mn_cell.specs.declared.trace.RunCause.{RunCause}
@@ -9,7 +9,8 @@ use Rattle.mn_cell.specs.Station.{RoseBy, unasked_in}
 use Rattle.mn_io.specs.DiskModel.{DiskState}
 use Rattle.mn_mini.specs.declared.record.Record.{Record}
 use Rattle.mn_node.specs.Restart.{AreAbsent, IsNoLog, DamageNames}
-use Rattle.mn_node.specs.State.{NodeState}
+use Rattle.mn_node.specs.Node.{listed}
+use Rattle.mn_node.specs.State.{NodeState, left_behind_list}
 use Rattle.mn_script.specs.Script.{Script}
 use Rattle.mn_runs.specs.declared.entry.Entry.{Entry}
 use Rattle.mn_runs.specs.Calls.{is_by, node_entries}
@@ -32,14 +33,26 @@ unasked_by_others (e ∷ es) =
 abbrev pub RoseBeyond : List Entry → NodeNo → ℕ → ℕ → Type 0
 RoseBeyond past n before now = RoseBy (unasked_by_others (node_entries n past) + 1) before now
 
+-- of the bodies that a disk gave, the first that differs from these records, of which the first may
+-- stand shortened there, with the pending one behind them; or without it, where the disk had failed
+-- while the log was shortened
+pub record IsOtherList (records : List Record) (pending : Option Record) (place : ℕ)
+    (kept found : Option Record) : Type 0 where
+  pub cut : ℕ
+  pub cutting : Bool
+  pub begins : ℕ
+  pub bodies : List (List ℕ)
+  pub names : DamageNames begins bodies (listed cut records) (left_behind_list cutting pending)
+      place kept found
+
 -- a restart found another list on the disk than the node's records, with the one of the stopped
 -- request or without: `kept` and `found` are the first record that differs, or there is no log
 abbrev pub HadOther : Start → List Entry → NodeNo → ℕ → Option Record → Option Record → Type 0
 HadOther start past n place kept found =
     (AreAbsent kept found × IsNoLog place)
-    ⊎ ((bodies : List (List ℕ)) × DamageNames bodies (reverse (records_of start past n))
+    ⊎ IsOtherList (reverse (records_of start past n))
     (added_by (base_at start n) (records_of start past n) (stopped_request (node_entries n past)))
-    place kept found)
+    place kept found
 
 -- the node of this number, as it was given and as it is left
 pub record IsAmong {D : Type 0} (n : NodeNo) (given left : List (NodeState D)) : Type 0 where

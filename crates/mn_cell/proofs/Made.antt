@@ -6,7 +6,7 @@ use Rattle.mn_base.specs.declared.ids.NodeNo.{NodeNo}
 use Rattle.mn_base.specs.declared.ids.ClientNo.{ClientNo}
 use Rattle.mn_base.specs.declared.gate.StopAt.{StopAt}
 use Rattle.mn_base.specs.declared.gate.StopAt.TheVariants.{Before, Half, After}
-use Rattle.mn_io.specs.DiskModel.{DiskState}
+use Rattle.mn_io.specs.DiskModel.{DiskState, IsDisk, LeavesOnly}
 use Rattle.mn_io.specs.Faults.{Rose}
 use Rattle.mn_mini.specs.declared.part.PartItem.{PartItem}
 use Rattle.mn_mini.specs.declared.record.Record.{Record}
@@ -19,7 +19,7 @@ use Rattle.mn_mini.specs.Mini.{has_write}
 use Rattle.mn_mini.specs.Flat.{Mismatched, part_mismatch_from}
 use Rattle.mn_mini.specs.Node.{Response, Clash, answer, after_compares, after_locks, clash_of, has_forced, has_voted, held_parts, space_of, with_added}
 use Rattle.mn_page.specs.Base.{base_of}
-use Rattle.mn_node.specs.Node.{StopLeaves, added_to, bodies_of}
+use Rattle.mn_node.specs.Node.{IsUpToWithOrWithout, StopLeaves, Stops, added_to, bodies_of, listed}
 use Rattle.mn_mini.specs.RecordGrammar.{record_bytes}
 use Rattle.mn_redo.specs.Redo.{StandsFor}
 use Rattle.mn_node.specs.State.{Answers, NodeKeepsDisk, NodeState, StandsForRecords, response_to}
@@ -28,7 +28,9 @@ use Rattle.mn_node.specs.declared.restart.RestartError.{RestartError}
 use Rattle.mn_node.specs.declared.restart.RestartError.TheVariants.{Fault, Damaged, NoMemory}
 use Rattle.mn_node.proofs.Found.{size_of}
 use Rattle.mn_node.proofs.Steps.{one_body_more}
-use Rattle.mn_node.proofs.Apart.{turned}
+use Rattle.mn_node.proofs.Apart.{between_honest, between_later, turned}
+use Rattle.mn_node.proofs.Listed.{listed_more, up_to}
+use Rattle.mn_node.proofs.Moments.{only_same}
 use Rattle.mn_runs.specs.declared.entry.Entry.{Entry}
 use Rattle.mn_runs.specs.declared.entry.What.{What}
 use Rattle.mn_runs.specs.declared.entry.What.TheVariants.{Begin, Issue, Called, Stopped, Restarted, Abandoned, Answered}
@@ -89,6 +91,9 @@ rose_later before old new rose le = omega (arith, rose, le)
 rose_since : (by before old new : ℕ) → RoseBy by before old → Rose old new → Rose before new
 rose_since by before old new rose more = omega (arith, rose, more)
 
+rose_earlier : (old between new : ℕ) → old ≤ between → Rose between new → Rose old new
+rose_earlier old between new le rose = omega (arith, le, rose)
+
 one_fault : (by before old new : ℕ) → RoseBy by before old → Rose old new → RoseBy (by + 1) before new
 one_fault by before old new rose more = omega (arith, rose, more)
 
@@ -123,6 +128,12 @@ not_longer records r is =
 same_stands : (disk : DiskState) (node node' nodes nodes' : ℕ) (records records' : List Record) → node' ≡ node → nodes' ≡ nodes → records' ≡ records → StandsForRecords disk node nodes records → StandsForRecords disk node' nodes' records'
 same_stands disk node node' nodes nodes' records records' same same' is stands =
     subst (λ (l : List Record). StandsForRecords disk node' nodes' l) (sym is) (subst (λ (n : ℕ). StandsForRecords disk node' n records) (sym same') (subst (λ (n : ℕ). StandsForRecords disk n nodes records) (sym same) stands))
+
+-- a call that leaves a node that is up as it was
+pub up_rests : {D : Type 0} (state : D → DiskState) (n : NodeState D) (added : Option Record) → n.cut ≤ length n.records → StandsForRecords (state n.disk) n.node n.nodes (listed n.cut n.records) → ((state n.disk).honest → IsDisk (state n.disk)) → (state n.disk).honest
+    → LeavesOnly (state n.disk) (state n.disk) (IsUpToWithOrWithout n.node n.nodes n.records added)
+up_rests state n added within stands is_disk h =
+    only_same (state n.disk) (IsUpToWithOrWithout n.node n.nodes n.records added) (is_disk h) (λ c image. inl (up_to n.node n.nodes c n.cut n.records within (stands h c image)))
 
 module _ {D : Type 0} (state : D → DiskState) (faults : D → ℕ) (start : Start) (number : NodeNo) (before : ℕ) (honest : Type 0) where
   -- a node that starts has made nothing
@@ -162,16 +173,32 @@ module _ {D : Type 0} (state : D → DiskState) (faults : D → ℕ) (start : St
     still_kept : (state new.disk).honest → RestartsKeepRecordsAsAsked HasRisen es
     still_kept h = all_keep_on HadRisen HasRisen risen es (made.kept (goes.no_better h))
 
+    same_list : new.records ≡ old.records → new.cut ≡ old.cut → listed new.cut new.records ≡ listed old.cut old.records
+    same_list records cut = ap (λ (n : ℕ). listed n new.records) cut ∙ ap (λ (l : List Record). listed old.cut l) records
+
     -- what the stop left is still there
-    pub left_on : ((records : List Record) → StandsForRecords (state old.disk) old.node old.nodes records → StandsForRecords (state new.disk) old.node old.nodes records) → new.records ≡ old.records → new.pending ≡ old.pending
-        → (asked : Option StopAt) → DiskStandsAsAsked state HadRisen old asked → DiskStandsAsAsked state HasRisen new asked
-    left_on keeps records pending None stands = tt
-    left_on keeps records pending (Some Before) stands = same_stands (state new.disk) old.node new.node old.nodes new.nodes old.records new.records goes.node goes.nodes records (keeps old.records stands)
-    left_on keeps records pending (Some Half) stands = same_stands (state new.disk) old.node new.node old.nodes new.nodes old.records new.records goes.node goes.nodes records (keeps old.records stands)
-    left_on keeps records pending (Some After) (inl rose) = inl (risen rose)
-    left_on keeps records pending (Some After) (inr there) =
+    abbrev KeepsLists : Type 0
+    KeepsLists = (list : List Record) → StandsForRecords (state old.disk) old.node old.nodes list → StandsForRecords (state new.disk) old.node old.nodes list
+
+    list_left : KeepsLists → new.records ≡ old.records → new.cut ≡ old.cut → new.cutting ≡ old.cutting → (old.cutting ≡ true) ⊎ ((old.cutting ≡ false) × StandsForRecords (state old.disk) old.node old.nodes (listed old.cut old.records))
+        → (new.cutting ≡ true) ⊎ ((new.cutting ≡ false) × StandsForRecords (state new.disk) new.node new.nodes (listed new.cut new.records))
+    list_left keeps records cut cutting (inl failed) = inl (cutting ∙ failed)
+    list_left keeps records cut cutting (inr (whole, stands)) =
+        inr (cutting ∙ whole, same_stands (state new.disk) old.node new.node old.nodes new.nodes (listed old.cut old.records) (listed new.cut new.records) goes.node goes.nodes (same_list records cut) (keeps (listed old.cut old.records) stands))
+
+    pub left_on : KeepsLists → new.records ≡ old.records → new.cut ≡ old.cut → new.cutting ≡ old.cutting → new.pending ≡ old.pending → (asked : Option StopAt) → DiskStandsAsAsked state HadRisen old asked → DiskStandsAsAsked state HasRisen new asked
+    left_on keeps records cut cutting pending None stands = tt
+    left_on keeps records cut cutting pending (Some Before) stands = list_left keeps records cut cutting stands
+    left_on keeps records cut cutting pending (Some Half) stands = list_left keeps records cut cutting stands
+    left_on keeps records cut cutting pending (Some After) (inl rose) = inl (risen rose)
+    left_on keeps records cut cutting pending (Some After) (inr there) =
         let r = there.0 in
-        inr (r, pending ∙ there.1, same_stands (state new.disk) old.node new.node old.nodes new.nodes (old.records ++ r ∷ []) (new.records ++ r ∷ []) goes.node goes.nodes (ap (λ (l : List Record). l ++ r ∷ []) records) (keeps (old.records ++ r ∷ []) there.2))
+        inr (
+          r,
+          pending ∙ there.1,
+          cutting ∙ there.2,
+          same_stands (state new.disk) old.node new.node old.nodes new.nodes (listed old.cut old.records ++ r ∷ []) (listed new.cut new.records ++ r ∷ []) goes.node goes.nodes (ap (λ (l : List Record). l ++ r ∷ []) (same_list records cut)) (keeps (listed old.cut old.records ++ r ∷ []) there.3),
+        )
 
     -- a node that goes on as it was
     pub made_still : new.records ≡ old.records → new.down ≡ old.down → (new.down ≡ true → new.pending ≡ old.pending) → (new.down ≡ true → DiskStandsAsAsked state HasRisen new (last_asked es)) → HasMadeEntries state faults start number before honest es new
@@ -253,24 +280,45 @@ module _ {D : Type 0} (state : D → DiskState) (faults : D → ℕ) (start : St
         (λ h. tt)
         (λ is. subst (λ (n : NodeState D). DiskStandsAsAsked state (Rose before (faults n.disk)) n (last_asked es)) (sym same) (made.left down))
 
-    stop_count : {fo fn : D} (node nodes : ℕ) (records : List (List ℕ)) (body : List ℕ) (request : Request) (stop : Option StopAt) → fo ≡ old.disk → fn ≡ new.disk → StopLeaves state faults fo fn node nodes records body stop
+    -- the disk failed, where no stop was asked for
+    stops_rose : (records : List Record) (cutting : Bool) (r : Record) → Stops state faults old.disk new.disk old.node old.nodes records old.cut new.cut cutting r None → Rose (faults old.disk) (faults new.disk)
+    stops_rose records true r (cut, failed) = failed.rose
+    stops_rose records false r told = rose_earlier (faults old.disk) (faults told.between) (faults new.disk) (between_later state faults old.disk told.between records old.cut new.cut told.shortened) told.stopped.at
+
+    stop_count : (records : List Record) (cutting : Bool) (r : Record) (request : Request) (stop : Option StopAt) → Stops state faults old.disk new.disk old.node old.nodes records old.cut new.cut cutting r stop
         → RoseBy (unasked es + unasked_in (Stopped (Some request) stop)) before (faults new.disk)
-    stop_count node nodes records body request None o n at = one_fault (unasked es) before (faults old.disk) (faults new.disk) made.counted (subst (λ (p : D × D). Rose (faults p.0) (faults p.1)) (λ i. (o i, n i)) at)
-    stop_count node nodes records body request (Some at) o n stops = no_more
+    stop_count records cutting r request None told = one_fault (unasked es) before (faults old.disk) (faults new.disk) made.counted (stops_rose records cutting r told)
+    stop_count records cutting r request (Some at) told = no_more
 
     -- what a stop that was asked for leaves
-    stop_left : (r : Record) (stop : Option StopAt) → new.records ≡ old.records → new.pending ≡ Some r → StopLeaves state faults old.disk new.disk old.node old.nodes (bodies_of old.records) (record_bytes r) stop → DiskStandsAsAsked state HasRisen new stop
-    stop_left r None records pending at = tt
-    stop_left r (Some Before) records pending at = same_stands (state new.disk) old.node new.node old.nodes new.nodes old.records new.records goes.node goes.nodes records (λ h. (at (goes.no_better h)).0)
-    stop_left r (Some Half) records pending at = same_stands (state new.disk) old.node new.node old.nodes new.nodes old.records new.records goes.node goes.nodes records (λ h. at.0 (goes.no_better h))
-    stop_left r (Some After) records pending (inl rose) = inl (rose_since (unasked es) before (faults old.disk) (faults new.disk) made.counted rose)
-    stop_left r (Some After) records pending (inr at) =
+    at_left : (between : D) (cutting : new.cutting ≡ false) (r : Record) (stop : Option StopAt) → new.records ≡ old.records → new.pending ≡ Some r → ((state old.disk).honest → (state between).honest) → faults old.disk ≤ faults between
+        → StopLeaves state faults between new.disk old.node old.nodes (bodies_of (listed new.cut old.records)) (record_bytes r) stop → DiskStandsAsAsked state HasRisen new stop
+    at_left between cutting r None records pending honest later at = tt
+    at_left between cutting r (Some Before) records pending honest later at =
+        inr (cutting, same_stands (state new.disk) old.node new.node old.nodes new.nodes (listed new.cut old.records) (listed new.cut new.records) goes.node goes.nodes (ap (λ (l : List Record). listed new.cut l) records) (λ h. (at (honest (goes.no_better h))).0))
+    at_left between cutting r (Some Half) records pending honest later at =
+        inr (cutting, same_stands (state new.disk) old.node new.node old.nodes new.nodes (listed new.cut old.records) (listed new.cut new.records) goes.node goes.nodes (ap (λ (l : List Record). listed new.cut l) records) (λ h. at.0 (honest (goes.no_better h))))
+    at_left between cutting r (Some After) records pending honest later (inl rose) =
+        inl (rose_since (unasked es) before (faults old.disk) (faults new.disk) made.counted (rose_earlier (faults old.disk) (faults between) (faults new.disk) later rose))
+    at_left between cutting r (Some After) records pending honest later (inr at) =
         inr (
           r,
           pending,
-          same_stands (state new.disk) old.node new.node old.nodes new.nodes (old.records ++ r ∷ []) (new.records ++ r ∷ []) goes.node goes.nodes (ap (λ (l : List Record). l ++ r ∷ []) records)
-              (λ h. subst (λ (l : List (List ℕ)). StandsFor (state new.disk) old.node old.nodes l) (one_body_more old.records r) (at (goes.no_better h))),
+          cutting,
+          same_stands (state new.disk) old.node new.node old.nodes new.nodes (listed new.cut old.records ++ r ∷ []) (listed new.cut new.records ++ r ∷ []) goes.node goes.nodes (ap (λ (l : List Record). listed new.cut l ++ r ∷ []) records)
+              (λ h. subst (λ (l : List (List ℕ)). StandsFor (state new.disk) old.node old.nodes l) (one_body_more (listed new.cut old.records) r) (at (honest (goes.no_better h)))),
         )
+
+    failed_left : new.cutting ≡ true → Rose (faults old.disk) (faults new.disk) → (stop : Option StopAt) → DiskStandsAsAsked state HasRisen new stop
+    failed_left cutting rose None = tt
+    failed_left cutting rose (Some Before) = inl cutting
+    failed_left cutting rose (Some Half) = inl cutting
+    failed_left cutting rose (Some After) = inl (rose_since (unasked es) before (faults old.disk) (faults new.disk) made.counted rose)
+
+    stop_left : (cutting : Bool) → new.cutting ≡ cutting → (r : Record) (stop : Option StopAt) → new.records ≡ old.records → new.pending ≡ Some r → Stops state faults old.disk new.disk old.node old.nodes old.records old.cut new.cut cutting r stop → DiskStandsAsAsked state HasRisen new stop
+    stop_left true is r stop records pending (cut, failed) = failed_left is failed.rose stop
+    stop_left false is r stop records pending told =
+        at_left told.between is r stop records pending (between_honest state faults old.disk told.between old.records old.cut new.cut told.shortened) (between_later state faults old.disk told.between old.records old.cut new.cut told.shortened) told.stopped.at
 
     -- a stop inside a request
     stopped_inside : (c : ClientNo) (request : Request) (stop : Option StopAt) → Answers state faults old request stop Say.Stopped new → HasMadeEntries state faults start number before honest (entry_at number c (Stopped (Some request) stop) ∷ es) new
@@ -282,9 +330,9 @@ module _ {D : Type 0} (state : D → DiskState) (faults : D → ℕ) (start : St
         (ap is_some (sym (ap (λ (x : Response). x.added) (responds request)) ∙ told.4))
         records told.1
         (λ is. told.5 ∙ (sym told.4 ∙ ap (λ (x : Response). x.added) (responds request)))
-        (stop_count old.node old.nodes (bodies_of old.records) (record_bytes r) request stop refl refl told.6.at)
+        (stop_count old.records new.cutting r request stop told.6)
         (λ h. tt)
-        (λ is. stop_left r stop told.2 told.5 told.6.at)
+        (λ is. stop_left new.cutting refl r stop told.2 told.5 told.6)
 
     -- a call that isn't answered for want of memory
     pub made_called : (c : ClientNo) (request : Request) (stop : Option StopAt) (reply : NodeReply) → Answers state faults old request stop reply new → reply ≢ Say.NoMemory
@@ -340,9 +388,8 @@ module _ {D : Type 0} (state : D → DiskState) (faults : D → ℕ) (start : St
         made_still still.0 still.1 (λ is. let no : true ≡ false = sym is ∙ still.2 in absurd (cc)) (none_left (last_asked es) still.2)
 
     -- a restart that failed leaves it down
-    pub made_failed : old.down ≡ true → new.down ≡ true → new.records ≡ old.records → new.pending ≡ old.pending
-        → ((records : List Record) → StandsForRecords (state old.disk) old.node old.nodes records → StandsForRecords (state new.disk) old.node old.nodes records) → HasMadeEntries state faults start number before honest es new
-    made_failed down down' records pending keeps = made_still records (down' ∙ sym down) (λ is. pending) (λ is. left_on keeps records pending (last_asked es) (made.left down))
+    pub made_failed : old.down ≡ true → new.down ≡ true → new.records ≡ old.records → new.cut ≡ old.cut → new.cutting ≡ old.cutting → new.pending ≡ old.pending → KeepsLists → HasMadeEntries state faults start number before honest es new
+    made_failed down down' records cut cutting pending keeps = made_still records (down' ∙ sym down) (λ is. pending) (λ is. left_on keeps records cut cutting pending (last_asked es) (made.left down))
 
     -- a stop between two calls
     pub made_halted : (c : ClientNo) → old.down ≡ false → new.down ≡ true → new.records ≡ old.records → new.pending ≡ None → HasMadeEntries state faults start number before honest (entry_at number c (Stopped None None) ∷ es) new
@@ -350,22 +397,38 @@ module _ {D : Type 0} (state : D → DiskState) (faults : D → ℕ) (start : St
         let up' : is_down es ≡ false = sym made.down ∙ up in
         entered c (Stopped None None) up' tt (ap (λ (l : List Record). reverse l) records ∙ made.records) down (λ is. pending) no_more (λ h. tt) (λ is. tt)
 
-    -- the records that come back are those that each image stood for
-    abbrev FindsRecords : Type 0
-    FindsRecords = (state old.disk).honest → (records : List Record) → StandsForRecords (state old.disk) old.node old.nodes records → bodies_of new.records ≡ bodies_of records
+    -- the list that comes back is the one that each image stood for; where no shortening had failed,
+    -- as many records stand shortened, and else the stopped request's record is not there
+    abbrev pub FindsRecords : Type 0
+    FindsRecords = (state old.disk).honest → (list : List Record) → StandsForRecords (state old.disk) old.node old.nodes list → bodies_of (listed new.cut new.records) ≡ bodies_of list
+
+    pub record FindsList (kept : Bool) : Type 0 where
+      pub within : old.cut ≤ length old.records
+      pub cut : old.cutting ≡ false → new.cut ≡ old.cut
+      pub none : old.cutting ≡ true → kept ≡ false
+      pub finds : FindsRecords
 
     -- a restart keeps what the stop asked for
-    restart_keeps : (asked : Option StopAt) (kept : Bool) (pending : Option Record) → RestartLeaves old.records pending new.records kept → FindsRecords → (state old.disk).honest → DiskStandsAsAsked state HadRisen old asked → IsRecordKeptAsAsked HasRisen asked kept
-    restart_keeps None kept pending restarts finds h stands = tt
-    restart_keeps (Some Before) false pending restarts finds h stands = refl
-    restart_keeps (Some Before) true None restarts finds h stands = absurd restarts
-    restart_keeps (Some Before) true (Some r) restarts finds h stands = absurd (not_longer old.records r (ap bodies_of (sym restarts) ∙ finds h old.records stands))
-    restart_keeps (Some Half) false pending restarts finds h stands = refl
-    restart_keeps (Some Half) true None restarts finds h stands = absurd restarts
-    restart_keeps (Some Half) true (Some r) restarts finds h stands = absurd (not_longer old.records r (ap bodies_of (sym restarts) ∙ finds h old.records stands))
-    restart_keeps (Some After) true pending restarts finds h stands = inr refl
-    restart_keeps (Some After) false pending restarts finds h (inl rose) = inl (risen rose)
-    restart_keeps (Some After) false pending restarts finds h (inr there) = absurd (not_longer old.records there.0 (sym (finds h (old.records ++ there.0 ∷ []) there.2) ∙ ap bodies_of restarts))
+    not_kept : (r : Record) → FindsList true → new.records ≡ old.records ++ r ∷ [] → (state old.disk).honest → (old.cutting ≡ true) ⊎ ((old.cutting ≡ false) × StandsForRecords (state old.disk) old.node old.nodes (listed old.cut old.records)) → ⊥
+    not_kept r f restarts h (inl failed) = let no : true ≡ false = f.none failed in absurd (cc)
+    not_kept r f restarts h (inr (whole, stands)) =
+        let more : listed new.cut new.records ≡ listed old.cut old.records ++ r ∷ [] = ap (λ (n : ℕ). listed n new.records) (f.cut whole) ∙ ap (λ (l : List Record). listed old.cut l) restarts ∙ listed_more old.cut old.records r f.within in
+        not_longer (listed old.cut old.records) r (ap bodies_of (sym more) ∙ f.finds h (listed old.cut old.records) stands)
+
+    restart_keeps : (asked : Option StopAt) (kept : Bool) (pending : Option Record) → RestartLeaves old.records pending new.records kept → FindsList kept → (state old.disk).honest → DiskStandsAsAsked state HadRisen old asked → IsRecordKeptAsAsked HasRisen asked kept
+    restart_keeps None kept pending restarts f h stands = tt
+    restart_keeps (Some Before) false pending restarts f h stands = refl
+    restart_keeps (Some Before) true None restarts f h stands = absurd restarts
+    restart_keeps (Some Before) true (Some r) restarts f h stands = absurd (not_kept r f restarts h stands)
+    restart_keeps (Some Half) false pending restarts f h stands = refl
+    restart_keeps (Some Half) true None restarts f h stands = absurd restarts
+    restart_keeps (Some Half) true (Some r) restarts f h stands = absurd (not_kept r f restarts h stands)
+    restart_keeps (Some After) true pending restarts f h stands = inr refl
+    restart_keeps (Some After) false pending restarts f h (inl rose) = inl (risen rose)
+    restart_keeps (Some After) false pending restarts f h (inr there) =
+        let list = listed old.cut old.records in
+        let same : listed new.cut new.records ≡ list = same_list restarts (f.cut there.2) in
+        absurd (not_longer list there.0 (sym (f.finds h (list ++ there.0 ∷ []) there.3) ∙ ap bodies_of same))
 
     restarted : (c : ClientNo) (kept : Bool) (pending : Option Record) → old.down ≡ true → new.down ≡ false → added_by (base_at start number) (node_records (base_at start number) (start_records start number) es) (stopped_request es) ≡ pending
         → RestartLeaves old.records pending new.records kept → ((state new.disk).honest → IsRecordKeptAsAsked HasRisen (last_asked es) kept) → HasMadeEntries state faults start number before honest (entry_at number c (Restarted kept) ∷ es) new
@@ -377,7 +440,7 @@ module _ {D : Type 0} (state : D → DiskState) (faults : D → ℕ) (start : St
         entered c (Restarted true) (sym made.down ∙ down, rw is refl) tt (rw is records) up (λ now. let no : true ≡ false = sym now ∙ up in absurd (cc)) no_more keeps (none_left (last_asked es) up)
 
     -- a restart
-    pub made_restarted : (c : ClientNo) (kept : Bool) → old.down ≡ true → new.down ≡ false → RestartLeaves old.records old.pending new.records kept → FindsRecords → HasMadeEntries state faults start number before honest (entry_at number c (Restarted kept) ∷ es) new
+    pub made_restarted : (c : ClientNo) (kept : Bool) → old.down ≡ true → new.down ≡ false → RestartLeaves old.records old.pending new.records kept → FindsList kept → HasMadeEntries state faults start number before honest (entry_at number c (Restarted kept) ∷ es) new
     made_restarted c kept down up restarts finds =
         restarted c kept old.pending down up (sym (made.pending down)) restarts (λ h. restart_keeps (last_asked es) kept old.pending restarts finds (goes.no_better h) (made.left down))
 

@@ -12,6 +12,7 @@ use Rattle.mn_mini.specs.declared.request.Request.{Request}
 use Rattle.mn_mini.specs.Node.{answer}
 use Rattle.mn_io.specs.DiskModel.{DiskState}
 use Rattle.mn_io.specs.Faults.{Rose}
+use Rattle.mn_node.specs.Node.{listed}
 use Rattle.mn_node.specs.State.{NodeState, StandsForRecords}
 use Rattle.mn_actors.specs.declared.board.Pass.{Pass}
 use Rattle.mn_actors.specs.declared.actor.Actor.TheVariants.{Node}
@@ -114,17 +115,20 @@ RestartsKeepRecordsAsAsked rose [] = ⊤
 RestartsKeepRecordsAsAsked rose (e ∷ es) =
     StepKeepsRecordAsAsked rose e.what (last_asked es) × RestartsKeepRecordsAsAsked rose es
 
--- what a stop that was asked for has left on an honest disk, for the next restart to find
+-- what a stop that was asked for has left on an honest disk, for the next restart to find, unless
+-- the disk failed while the log was shortened
 abbrev pub DiskStandsAsAsked : {D : Type 0} → (D → DiskState) → Type 0 → NodeState D → Option StopAt
     → Type 0
 DiskStandsAsAsked state rose n None = ⊤
 DiskStandsAsAsked state rose n (Some Before) =
-    StandsForRecords (state n.disk) n.node n.nodes n.records
+    (n.cutting ≡ true) ⊎ ((n.cutting ≡ false)
+    × StandsForRecords (state n.disk) n.node n.nodes (listed n.cut n.records))
 DiskStandsAsAsked state rose n (Some Half) =
-    StandsForRecords (state n.disk) n.node n.nodes n.records
+    (n.cutting ≡ true) ⊎ ((n.cutting ≡ false)
+    × StandsForRecords (state n.disk) n.node n.nodes (listed n.cut n.records))
 DiskStandsAsAsked state rose n (Some After) =
-    rose ⊎ ((r : Record) × (n.pending ≡ Some r)
-    × StandsForRecords (state n.disk) n.node n.nodes (n.records ++ r ∷ []))
+    rose ⊎ ((r : Record) × (n.pending ≡ Some r) × (n.cutting ≡ false)
+    × StandsForRecords (state n.disk) n.node n.nodes (listed n.cut n.records ++ r ∷ []))
 
 -- The entries, newest first, are those of a node that started so: each is allowed by those before
 -- it, and the node has the records that they leave. Each has a caller, and where one stopped it

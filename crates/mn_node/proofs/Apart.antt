@@ -1,5 +1,5 @@
 -- What a node's records keep, whatever it is asked.
-use Rattle.std.proofs.Common.{◌≡◌, ◌<◌, ℕ, inl, Bool, true, false, List, [], ◌∷◌, reverse, Option, Some, None, refl, sym, ◌∙◌, subst, if◌then◌else◌}
+use Rattle.std.proofs.Common.{◌≡◌, ◌<◌, ◌≤◌, ℕ, inl, inr, arith, length, Bool, true, false, List, [], ◌∷◌, reverse, Option, Some, None, refl, ap, sym, ◌∙◌, subst, if◌then◌else◌}
 use Rattle.std.specs.List.{AllByRecursion}
 use Rattle.std.proofs.lemmas.List.{reverse-append}
 use Rattle.mn_mini.specs.declared.part.PartItem.{PartItem}
@@ -20,11 +20,11 @@ use Rattle.mn_mini.specs.declared.reply.NodeReply.{NodeReply}
 use Rattle.mn_mini.specs.declared.reply.NodeReply.TheVariants as Say
 use Rattle.mn_node.specs.declared.memory.Memory.{Memory}
 use Rattle.mn_page.specs.Base.{base_of}
-use Rattle.mn_node.specs.Node.{LogKeepsDisk, HasStopped, NoStopIsDue, IsNodeUp, Replies, KeepsNodeNumbers, added_to, node_answer}
-use Rattle.mn_node.specs.State.{IsNode}
+use Rattle.mn_mini.specs.Short.{short}
+use Rattle.mn_node.specs.Node.{LogKeepsDisk, MayHaveShortened, NoStopIsDue, IsNodeUp, Replies, KeepsNodeNumbers, StandsForEither, Stops, added_to, listed, node_answer, on_disk}
+use Rattle.mn_node.specs.State.{IsNode, other_list}
 use Rattle.mn_node.proofs.Found.{first_sound}
 use Rattle.mn_node.proofs.Replies.{up_stands}
-use Rattle.mn_node.proofs.Steps.{same_stands}
 use Rattle.mn_mini.specs.Sound.{IsSoundRequest}
 
 pub turned : (records : List Record) (o : Option Record) → reverse (added_to records o) ≡ with_added o (reverse records)
@@ -81,12 +81,14 @@ left_sound records r p is = all_append IsRecord records (r ∷ []) p (is, tt)
 true_is : true ≡ false → ⊥
 true_is e = cc
 
-is_node : {D : Type 0} (state : D → DiskState) (faults : D → ℕ) (redo new : AppenderState D) (m after : Memory) (down : Bool) (pending : Option Record) → IsNode state redo m down pending → down ≡ false → LogKeepsDisk state faults redo new → KeepsNodeNumbers m after
-    → IsNodeUp state new after → PartsAreApart (held_parts (reverse after.records.items)) → IsNode state new after down pending
-is_node state faults redo new m after down pending was up goes same is apart =
+is_node : {D : Type 0} (state : D → DiskState) (faults : D → ℕ) (redo new : AppenderState D) (m after : Memory) (down : Bool) (pending : Option Record) (cutting : Bool) → IsNode state redo m down pending cutting → down ≡ false → LogKeepsDisk state faults redo new → KeepsNodeNumbers m after
+    → IsNodeUp state new after → PartsAreApart (held_parts (reverse after.records.items)) → IsNode state new after down pending cutting
+is_node state faults redo new m after down pending cutting was up goes same is apart =
     let none = was.settled up in record {
       up = λ _. is;
       settled = was.settled;
+      whole = was.whole;
+      within = is.within;
       sound = subst (λ (o : Option Record). AllByRecursion IsRecord (added_to after.records.items o)) (sym none) is.memory.sound;
       apart = apart;
       apart_left = subst (λ (o : Option Record). PartsAreApart (held_parts (reverse (added_to after.records.items o)))) (sym none) apart;
@@ -116,25 +118,58 @@ up_apart state new m after request stop Say.Decided law apart told = apart_full 
 up_apart state new m after request stop (Say.Listed doubts) law apart told = apart_full state new m after request stop (Say.Listed doubts) law apart told
 up_apart state new m after request stop (Say.Peeked bytes) law apart told = apart_full state new m after request stop (Say.Peeked bytes) law apart told
 
-pub node_replied : {D : Type 0} (state : D → DiskState) (faults : D → ℕ) (redo new : AppenderState D) (m after : Memory) (down : Bool) (pending : Option Record) (request : Request) (stop : Option StopAt) (reply : NodeReply) → HeldPartsStayApart
-    → IsNode state redo m down pending → down ≡ false → LogKeepsDisk state faults redo new → KeepsNodeNumbers m after → Replies state m request stop reply new after → IsNode state new after down pending
-node_replied state faults redo new m after down pending request stop reply law was up goes same told =
-    let both = up_apart state new m after request stop reply law was.apart told in is_node state faults redo new m after down pending was up goes same both.0 both.1
+pub node_replied : {D : Type 0} (state : D → DiskState) (faults : D → ℕ) (redo new : AppenderState D) (m after : Memory) (down : Bool) (pending : Option Record) (cutting : Bool) (request : Request) (stop : Option StopAt) (reply : NodeReply) → HeldPartsStayApart
+    → IsNode state redo m down pending cutting → down ≡ false → LogKeepsDisk state faults redo new → KeepsNodeNumbers m after → Replies state m request stop reply new after → IsNode state new after down pending cutting
+node_replied state faults redo new m after down pending cutting request stop reply law was up goes same told =
+    let both = up_apart state new m after request stop reply law was.apart told in is_node state faults redo new m after down pending cutting was up goes same both.0 both.1
 
-pub node_stopped : {D : Type 0} (state : D → DiskState) (faults : D → ℕ) (redo new : AppenderState D) (m after : Memory) (down : Bool) (pending : Option Record) (request : Request) (stop : Option StopAt) (left : Record) → HeldPartsStayApart → IsSoundRequest request
-    → IsNode state redo m down pending → LogKeepsDisk state faults redo new → KeepsNodeNumbers m after
-    → (after.records.items ≡ m.records.items) × ((node_answer m request).added ≡ Some left) × HasStopped state faults redo.disk new.disk redo.node redo.nodes m.records.items left stop → IsNode state new after true (Some left)
-node_stopped state faults redo new m after down pending request stop left law sound was goes same told =
+-- what the disk of a node has that stopped
+
+pub between_honest : {D : Type 0} (state : D → DiskState) (faults : D → ℕ) (old between : D) (records : List Record) (before after : ℕ) → MayHaveShortened state faults old between records before after → (state old).honest → (state between).honest
+between_honest state faults old between records before after (inl (same, cut)) h = subst (λ (d : _). (state d).honest) (sym same) h
+between_honest state faults old between records before after (inr (cut, later, goes)) h = goes h
+
+pub between_later : {D : Type 0} (state : D → DiskState) (faults : D → ℕ) (old between : D) (records : List Record) (before after : ℕ) → MayHaveShortened state faults old between records before after → faults old ≤ faults between
+between_later state faults old between records before after (inl (same, cut)) = omega (arith, ap faults same)
+between_later state faults old between records before after (inr (cut, later, goes)) = later
+
+shortened_within : {D : Type 0} (state : D → DiskState) (faults : D → ℕ) (old between : D) (records : List Record) (before after : ℕ) → before ≤ length records → MayHaveShortened state faults old between records before after → after ≤ length records
+shortened_within state faults old between records before after within (inl (same, cut)) = omega (arith, within, cut)
+shortened_within state faults old between records before after within (inr (cut, later, goes)) = omega (arith, cut)
+
+stops_within : {D : Type 0} (state : D → DiskState) (faults : D → ℕ) (old new : D) (node nodes : ℕ) (records : List Record) (before after : ℕ) (cutting : Bool) (r : Record) (stop : Option StopAt) → before ≤ length records
+    → Stops state faults old new node nodes records before after cutting r stop → after ≤ length records
+stops_within state faults old new node nodes records before after true r stop within (cut, failed) = omega (arith, within, cut)
+stops_within state faults old new node nodes records before after false r stop within told = shortened_within state faults old told.between records before after within told.shortened
+
+stops_stand : {D : Type 0} (state : D → DiskState) (faults : D → ℕ) (old new : D) (node nodes : ℕ) (records : List Record) (before after : ℕ) (cutting : Bool) (r : Record) (stop : Option StopAt)
+    → Stops state faults old new node nodes records before after cutting r stop → (state old).honest → StandsForEither (state new) node nodes (listed after records) (other_list cutting (listed after records) records (Some r))
+stops_stand state faults old new node nodes records before after true r stop (cut, failed) h =
+    subst (λ (n : ℕ). StandsForEither (state new) node nodes (listed n records) (short records)) (sym cut) (failed.stands h)
+stops_stand state faults old new node nodes records before after false r stop told h =
+    told.stopped.stands (between_honest state faults old told.between records before after told.shortened h)
+
+pub node_stopped : {D : Type 0} (state : D → DiskState) (faults : D → ℕ) (redo new : AppenderState D) (m after : Memory) (down : Bool) (pending : Option Record) (was_cutting cutting : Bool) (request : Request) (stop : Option StopAt) (left : Record) → HeldPartsStayApart → IsSoundRequest request
+    → IsNode state redo m down pending was_cutting → LogKeepsDisk state faults redo new → KeepsNodeNumbers m after
+    → (after.records.items ≡ m.records.items) × ((node_answer m request).added ≡ Some left) × Stops state faults redo.disk new.disk redo.node redo.nodes m.records.items m.cut after.cut cutting left stop → IsNode state new after true (Some left) cutting
+node_stopped state faults redo new m after down pending was_cutting cutting request stop left law sound was goes same told =
     let base = base_of m.nodes m.node in
     let records = first_sound m.records.items pending was.sound in
     let one = added_sound base (reverse m.records.items) request left sound told.1 in
     let apart = subst (λ (o : Option Record). PartsAreApart (held_parts (reverse (added_to m.records.items o)))) told.1 (apart_after law base m.records.items request was.apart) in record {
       up = λ e. absurd (true_is e);
       settled = λ e. absurd (true_is e);
+      whole = λ e. absurd (true_is e);
+      within =
+          subst (λ (l : List Record). after.cut ≤ length l) (sym told.0) (stops_within state faults redo.disk new.disk redo.node redo.nodes m.records.items m.cut after.cut cutting left stop was.within told.2);
       sound = subst (λ (l : List Record). AllByRecursion IsRecord (added_to l (Some left))) (sym told.0) (left_sound m.records.items left records one);
       apart = subst (λ (l : List Record). PartsAreApart (held_parts (reverse l))) (sym told.0) was.apart;
       apart_left = subst (λ (l : List Record). PartsAreApart (held_parts (reverse (added_to l (Some left))))) (sym told.0) apart;
-      stands = λ h. same_stands (state new.disk) redo.node new.node redo.nodes new.nodes m.records.items after.records.items (Some left) (sym goes.node) (sym goes.nodes) (sym told.0) (told.2.stands (goes.no_better h));
+      stands = λ h.
+          let stands = stops_stand state faults redo.disk new.disk redo.node redo.nodes m.records.items m.cut after.cut cutting left stop told.2 (goes.no_better h) in
+          let with_list = subst (λ (l : List Record). StandsForEither (state new.disk) redo.node redo.nodes (listed after.cut l) (other_list cutting (listed after.cut l) l (Some left))) (sym told.0) stands in
+          let with_node = subst (λ (n : ℕ). StandsForEither (state new.disk) n redo.nodes (on_disk after) (other_list cutting (on_disk after) after.records.items (Some left))) (sym goes.node) with_list in
+          subst (λ (n : ℕ). StandsForEither (state new.disk) new.node n (on_disk after) (other_list cutting (on_disk after) after.records.items (Some left))) (sym goes.nodes) with_node;
       header = goes.header was.header;
       node = same.0 ∙ was.node ∙ sym goes.node;
       nodes = same.1 ∙ was.nodes ∙ sym goes.nodes;

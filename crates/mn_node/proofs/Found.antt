@@ -8,6 +8,7 @@ use Rattle.mn_node.specs.Node.{bodies_of, added_to}
 use Rattle.mn_node.specs.declared.restart.RestartError.{RestartError}
 use Rattle.mn_node.specs.declared.restart.RestartError.TheVariants.{Fault, Damaged, NoMemory}
 use Rattle.std.specs.Prelude.{◌⊎◌}
+use Rattle.mn_redo.specs.Log.{FrontState}
 use Rattle.mn_node.specs.Restart.{AreAbsent, TellsOtherRecords, TellsDifferenceAt, IsBadBody, DamageNames, IsFirstDifference, IsSpelledAt, BeginsWithRecords, AreBodiesWithPending, AreOtherBodies, DiffersFirstAt, record_at}
 
 -- the first bodies are those of the first records
@@ -158,9 +159,9 @@ some_record : (bodies : List (List ℕ)) (at : ℕ) (found : Option Record) → 
 some_record bodies at None is less e = let none : ⊥ = omega (arith, is, less) in none
 some_record bodies at (Some q) is less e = cc
 
-damage : {bodies : List (List ℕ)} {records : List Record} {pending : Option Record} {at : ℕ} (place : ℕ) (named found kept : Option Record)
-    → (AreAbsent named found × IsBadBody bodies place) ⊎ ((place ≡ at) × (named ≡ kept) × IsSpelledAt bodies at found)
-    → (IsSpelledAt bodies at found → IsFirstDifference bodies records pending at kept found) → DamageNames bodies records pending place named found
+damage : {start : ℕ} {bodies : List (List ℕ)} {records : List Record} {pending : Option Record} {at : ℕ} (place : ℕ) (named found kept : Option Record)
+    → (AreAbsent named found × IsBadBody start bodies place) ⊎ ((place ≡ at) × (named ≡ kept) × IsSpelledAt bodies at found)
+    → (IsSpelledAt bodies at found → IsFirstDifference bodies records pending at kept found) → DamageNames start bodies records pending place named found
 damage place named found kept (inl none) first = inl none
 damage {bodies = bodies} {records = records} {pending = pending} place named found kept (inr told) first =
     inr (subst (λ (k : Option Record). IsFirstDifference bodies records pending place k found) (sym told.1) (subst (λ (n : ℕ). IsFirstDifference bodies records pending n kept found) (sym told.0) (first told.2)))
@@ -168,27 +169,45 @@ damage {bodies = bodies} {records = records} {pending = pending} place named fou
 pub front_otherwise : (bodies : List (List ℕ)) (records : List Record) (at : ℕ) (r : Record) → at < length records → r ≡ get_or records at r → DiffersFirstAt bodies records at → BeginsWithRecords bodies records → ⊥
 front_otherwise bodies records at r less is other front = other.other (omega (arith, less, front.no_fewer)) r is (body_at bodies records at r front less ∙ sym (ap record_bytes is))
 
-pub differs_front : (bodies : List (List ℕ)) (records : List Record) (pending : Option Record) (at : ℕ) (r : Record) (e : RestartError) → at < length records → DiffersFirstAt bodies records at → r ≡ get_or records at r
-    → TellsDifferenceAt bodies at (Some r) e → TellsOtherRecords bodies records pending e
-differs_front bodies records pending at r Fault less other is told = absurd told
-differs_front bodies records pending at r NoMemory less other is told = tt
-differs_front bodies records pending at r (Damaged place named found) less other is told =
+-- the records alone are the log's, or not
+
+pub not_so_many : (bodies : List (List ℕ)) (records : List Record) → length bodies ≢ length records → bodies ≢ bodies_of records
+not_so_many bodies records other e = other (ap (λ (l : List (List ℕ)). length l) e ∙ size_of records)
+
+pub whole_list : (bodies : List (List ℕ)) (records : List Record) → length bodies ≡ length records → BeginsWithRecords bodies records → bodies ≡ bodies_of records
+whole_list bodies records size front = sym (take_all (length records) bodies (omega (arith, size))) ∙ front.first
+
+index_of_itself : (records : List Record) (at : ℕ) (r : Record) → at < length records → get_or records at r ≡ get_or records at (get_or records at r)
+index_of_itself [] at r less = absurd (omega (arith, less))
+index_of_itself (x ∷ records) zero r less = refl
+index_of_itself (x ∷ records) (suc at) r less = index_of_itself records at r (omega (arith, less))
+
+pub differs_somewhere : (bodies : List (List ℕ)) (records : List Record) (at : ℕ) → at < length records → DiffersFirstAt bodies records at → bodies ≢ bodies_of records
+differs_somewhere bodies [] at less other e = absurd (omega (arith, less))
+differs_somewhere bodies (x ∷ records) at less other e =
+    front_otherwise bodies (x ∷ records) at (get_or (x ∷ records) at x) less (index_of_itself (x ∷ records) at x less) other (listed_front bodies (x ∷ records) e)
+
+pub differs_front : (log : FrontState) (records : List Record) (pending : Option Record) (at : ℕ) (r : Record) (e : RestartError) → at < length records → DiffersFirstAt log.bodies records at → r ≡ get_or records at r
+    → TellsDifferenceAt log at (Some r) e → TellsOtherRecords log records pending e
+differs_front log records pending at r Fault less other is told = absurd told
+differs_front log records pending at r NoMemory less other is told = tt
+differs_front log records pending at r (Damaged place named found) less other is told =
     let here : record_at records at ≡ Some r = record_of records at r less ∙ ap Some (sym is) in (
-      other_front bodies records pending (front_otherwise bodies records at r less is other),
+      other_front log.bodies records pending (front_otherwise log.bodies records at r less is other),
       damage place named found (Some r) told (λ f. record {
         kept_is = sym here;
         found_is = f;
         before = other.first ∙ ap bodies_of (sym (take_before_added records pending at (omega (arith, less))));
-        differs = λ e. other_record bodies at found r f (λ there. other.other there r is) (e ∙ record_before records pending at less ∙ here);
+        differs = λ e. other_record log.bodies at found r f (λ there. other.other there r is) (e ∙ record_before records pending at less ∙ here);
       }),
     )
 
 -- behind the records
-pub differs_behind : (bodies : List (List ℕ)) (records : List Record) (pending : Option Record) (e : RestartError) → BeginsWithRecords bodies records → length records < length bodies
-    → AreOtherBodies bodies records pending → ((r : Record) → pending ≡ Some r → get_or bodies (length records) [] ≢ record_bytes r) → TellsDifferenceAt bodies (length records) None e → TellsOtherRecords bodies records pending e
-differs_behind bodies records pending Fault front more never other told = absurd told
-differs_behind bodies records pending NoMemory front more never other told = tt
-differs_behind bodies records pending (Damaged place named found) front more never other told = (
+pub differs_behind : (log : FrontState) (records : List Record) (pending : Option Record) (e : RestartError) → BeginsWithRecords log.bodies records → length records < length log.bodies
+    → AreOtherBodies log.bodies records pending → ((r : Record) → pending ≡ Some r → get_or log.bodies (length records) [] ≢ record_bytes r) → TellsDifferenceAt log (length records) None e → TellsOtherRecords log records pending e
+differs_behind log records pending Fault front more never other told = absurd told
+differs_behind log records pending NoMemory front more never other told = tt
+differs_behind log records pending (Damaged place named found) front more never other told = (
   never,
   damage place named found None told (λ f. record {
     kept_is = sym (record_past records (length records) (omega arith));
@@ -198,25 +217,25 @@ differs_behind bodies records pending (Damaged place named found) front more nev
   }),
 )
   where
-    behind : (p : Option Record) → ((r : Record) → p ≡ Some r → get_or bodies (length records) [] ≢ record_bytes r) → IsSpelledAt bodies (length records) found → found ≢ record_at (added_to records p) (length records)
-    behind None other f e = some_record bodies (length records) found f more (e ∙ record_past records (length records) (omega arith))
-    behind (Some r) other f e = other_record bodies (length records) found r f (λ there. other r refl) (e ∙ last_at records r)
+    behind : (p : Option Record) → ((r : Record) → p ≡ Some r → get_or log.bodies (length records) [] ≢ record_bytes r) → IsSpelledAt log.bodies (length records) found → found ≢ record_at (added_to records p) (length records)
+    behind None other f e = some_record log.bodies (length records) found f more (e ∙ record_past records (length records) (omega arith))
+    behind (Some r) other f e = other_record log.bodies (length records) found r f (λ there. other r refl) (e ∙ last_at records r)
 
 -- behind the records and the one more
-pub differs_past : (bodies : List (List ℕ)) (records : List Record) (r : Record) (e : RestartError) → BeginsWithRecords bodies records → length records + 1 < length bodies
-    → get_or bodies (length records) [] ≡ record_bytes r → TellsDifferenceAt bodies (length records + 1) None e → TellsOtherRecords bodies records (Some r) e
-differs_past bodies records r Fault front more same told = absurd told
-differs_past bodies records r NoMemory front more same told = tt
-differs_past bodies records r (Damaged place named found) front more same told =
+pub differs_past : (log : FrontState) (records : List Record) (r : Record) (e : RestartError) → BeginsWithRecords log.bodies records → length records + 1 < length log.bodies
+    → get_or log.bodies (length records) [] ≡ record_bytes r → TellsDifferenceAt log (length records + 1) None e → TellsOtherRecords log records (Some r) e
+differs_past log records r Fault front more same told = absurd told
+differs_past log records r NoMemory front more same told = tt
+differs_past log records r (Damaged place named found) front more same told =
     let size : length (records ++ r ∷ []) ≡ length records + 1 = omega (arith, length-append records (r ∷ [])) in (
-      (not_alone bodies records (omega (arith, more)), too_many bodies records r more),
+      (not_alone log.bodies records (omega (arith, more)), too_many log.bodies records r more),
       damage place named found None told (λ f. record {
         kept_is = sym (record_past records (length records + 1) (omega arith));
         found_is = f;
         before =
-            take_more bodies (length records) [] (omega (arith, more)) ∙ ap (λ (l : List (List ℕ)). l ++ get_or bodies (length records) [] ∷ []) front.first
+            take_more log.bodies (length records) [] (omega (arith, more)) ∙ ap (λ (l : List (List ℕ)). l ++ get_or log.bodies (length records) [] ∷ []) front.first
             ∙ ap (λ (b : List ℕ). bodies_of records ++ b ∷ []) same ∙ sym (map-append record_bytes records (r ∷ []))
             ∙ ap bodies_of (sym (take_all (length records + 1) (records ++ r ∷ []) (omega (arith, size))));
-        differs = λ e. some_record bodies (length records + 1) found f more (e ∙ record_past (records ++ r ∷ []) (length records + 1) (omega (arith, size)));
+        differs = λ e. some_record log.bodies (length records + 1) found f more (e ∙ record_past (records ++ r ∷ []) (length records + 1) (omega (arith, size)));
       }),
     )

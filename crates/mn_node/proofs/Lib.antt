@@ -6,7 +6,9 @@ pub mod Votes
 pub mod Ties
 pub mod TestedParts
 pub mod Built
+pub mod Listed
 pub mod Steps
+pub mod Spelled
 pub mod Locked
 pub mod Replayed
 pub mod Resting
@@ -16,4 +18,5 @@ pub mod Apart
 pub mod Restarts
 pub mod FreshLog
 pub mod Moments
+pub mod Puts
 pub mod Fitting

@@ -1,7 +1,7 @@
 -- A node that is up, after a record was added.
-use Rattle.std.proofs.Common.{vec_len, ◌≡◌, ◌≤◌, ◌+◌, ◌*◌, ℕ, Bool, true, false, List, [], ◌∷◌, ◌++◌, Option, Some, None, Result, Ok, Err, OnOk, OnErr, inl, inr, refl, ap, sym, ◌∙◌, subst, arith}
+use Rattle.std.proofs.Common.{vec_len, ◌≡◌, ◌≤◌, ◌+◌, ◌*◌, ℕ, Bool, true, false, List, [], ◌∷◌, ◌++◌, length, length-append, Option, Some, None, Result, Ok, Err, OnOk, OnErr, inl, inr, refl, ap, sym, ◌∙◌, subst, arith}
 use Rattle.std.specs.Prelude.{◌⊎◌}
-use Rattle.std.specs.Result.{is_err}
+use Rattle.std.specs.Result.{is_err, is_ok}
 use Rattle.std.proofs.lemmas.Bool.{false≢true}
 use Rattle.mn_io.specs.Faults.{Rose}
 use Rattle.mn_redo.specs.Grammar.{IsBeforeOrAfter}
@@ -16,29 +16,73 @@ use Rattle.mn_base.specs.declared.gate.StopAt.TheVariants.{Before, Half, After}
 use Rattle.mn_node.specs.Node.{StandsWithOrWithout, StopLeaves, HasStopped, LogKeepsDisk, NoStopIsDue, IsLogged, DiskStaysIfHonest, added_to}
 use Rattle.mn_node.proofs.Resting.{rests_then}
 use Rattle.std.proofs.lemmas.List.{map-append}
-use Rattle.mn_io.specs.DiskModel.{DiskState, IsDisk}
+use Rattle.mn_io.specs.DiskModel.{DiskState, IsDisk, DiskStays}
 use Rattle.mn_redo.specs.Grammar.{Stands}
-use Rattle.mn_redo.specs.Appender.{AppenderState}
+use Rattle.mn_redo.specs.Appender.{AppenderState, IsLogOf}
 use Rattle.mn_redo.specs.declared.redo.Phase.TheVariants.{Started}
 use Rattle.mn_mini.specs.declared.record.Record.{Record}
 use Rattle.mn_mini.specs.RecordGrammar.{record_bytes}
 use Rattle.mn_node.specs.declared.memory.Memory.{Memory}
 use Rattle.mn_node.specs.Memory.{IsMemory, HasDecisionRoom}
-use Rattle.mn_node.specs.Node.{IsLogFor, IsNodeUp, bodies_of}
+use Rattle.mn_node.specs.Node.{IsLogFor, IsNodeUp, bodies_of, listed, on_disk}
+use Rattle.mn_node.proofs.Listed.{listed_more}
 
 pub one_body_more : (records : List Record) (r : Record) → bodies_of records ++ record_bytes r ∷ [] ≡ bodies_of (records ++ r ∷ [])
 one_body_more records r = sym (map-append record_bytes records (r ∷ []))
 
-pub up_added : {D : Type 0} (state : D → DiskState) (new : AppenderState D) (before after : Memory) (r : Record) → new.phase ≡ Started → IsLogFor state new (bodies_of before.records.items ++ record_bytes r ∷ [])
-    → IsMemory after → HasDecisionRoom after → after.records.items ≡ before.records.items ++ r ∷ []
+-- the memory has a record more, and its list too
+more_on_disk : (before after : Memory) (r : Record) → before.cut ≤ length before.records.items → after.records.items ≡ before.records.items ++ r ∷ [] → after.cut ≡ before.cut → on_disk after ≡ on_disk before ++ r ∷ []
+more_on_disk before after r within records cut =
+    ap (λ (n : ℕ). listed n after.records.items) cut ∙ ap (λ (l : List Record). listed before.cut l) records ∙ listed_more before.cut before.records.items r within
+
+more_within : (before after : Memory) (r : Record) → before.cut ≤ length before.records.items → after.records.items ≡ before.records.items ++ r ∷ [] → after.cut ≡ before.cut → after.cut ≤ length after.records.items
+more_within before after r within records cut =
+    omega (arith, within, cut, ap length records, length-append before.records.items (r ∷ []))
+
+pub up_added : {D : Type 0} (state : D → DiskState) (new : AppenderState D) (before after : Memory) (r : Record) → before.cut ≤ length before.records.items → new.phase ≡ Started → IsLogFor state new (bodies_of (on_disk before) ++ record_bytes r ∷ [])
+    → IsMemory after → HasDecisionRoom after → after.records.items ≡ before.records.items ++ r ∷ [] → after.cut ≡ before.cut
     → vec_len after.held ≤ new.spare_bodies → 11 * vec_len after.held ≤ new.spare_bytes → IsNodeUp state new after
-up_added state new before after r started log memory room records spare_bodies spare_bytes = record {
+up_added state new before after r within started log memory room records cut spare_bodies spare_bytes = record {
   memory = memory;
   room = room;
   started = started;
-  log = subst (IsLogFor state new) (one_body_more before.records.items r ∙ ap bodies_of (sym records)) log;
+  log = subst (IsLogFor state new) (one_body_more (on_disk before) r ∙ ap bodies_of (sym (more_on_disk before after r within records cut))) log;
+  within = more_within before after r within records cut;
   spare_bodies = spare_bodies;
   spare_bytes = spare_bytes;
+}
+
+pub same_on_disk : (m after : Memory) → after.records.items ≡ m.records.items → after.cut ≡ m.cut → on_disk after ≡ on_disk m
+same_on_disk m after records cut = ap (λ (n : ℕ). listed n after.records.items) cut ∙ ap (λ (l : List Record). listed m.cut l) records
+
+-- room was made, in memory and for the log
+pub room_made : {D : Type 0} (state : D → DiskState) (old new : AppenderState D) (m after : Memory) → IsNodeUp state old m → IsMemory after → HasDecisionRoom after → after.records.items ≡ m.records.items → after.cut ≡ m.cut → vec_len after.held ≡ vec_len m.held → new.phase ≡ old.phase
+    → ((list : List (List ℕ)) → IsLogOf state old list → IsLogOf state new list) → new.node ≡ old.node → new.nodes ≡ old.nodes → ((state old.disk).honest → DiskStays (state old.disk) (state new.disk)) → ((state new.disk).honest → (state old.disk).honest)
+    → old.spare_bodies ≤ new.spare_bodies → old.spare_bytes ≤ new.spare_bytes → IsNodeUp state new after
+room_made state old new m after up memory room records cut held phase keeps node nodes stays no_better fewer less = record {
+  memory = memory;
+  room = room;
+  started = phase ∙ up.started;
+  log = subst (λ (l : List Record). IsLogFor state new (bodies_of l)) (sym (same_on_disk m after records cut)) (record {
+    log = keeps (bodies_of (on_disk m)) up.log.log;
+    stands = λ h c image.
+        let stands = up.log.stands (no_better h) c ((stays (no_better h)).images c image) in
+        subst (λ (n : ℕ). Stands n new.nodes c (bodies_of (on_disk m))) (sym node) (subst (λ (n : ℕ). Stands old.node n c (bodies_of (on_disk m))) (sym nodes) stands);
+  });
+  within = omega (arith, up.within, cut, ap length records);
+  spare_bodies = omega (arith, held, up.spare_bodies, fewer);
+  spare_bytes = omega (arith, held, up.spare_bytes, less);
+}
+
+-- one call behind another
+pub keeps_then : {D : Type 0} (state : D → DiskState) (faults : D → ℕ) (old mid new : AppenderState D) → LogKeepsDisk state faults old mid → LogKeepsDisk state faults mid new → LogKeepsDisk state faults old new
+keeps_then state faults old mid new first second = record {
+  node = second.node ∙ first.node;
+  nodes = second.nodes ∙ first.nodes;
+  honest = λ h. second.honest (first.honest h);
+  no_better = λ h. first.no_better (second.no_better h);
+  later = omega (arith, first.later, second.later);
+  header = λ was. second.header (first.header was);
 }
 
 -- What a call told, by its result
@@ -46,6 +90,10 @@ up_added state new before after r started log memory room records spare_bodies s
 pub on_ok : {T E : Type 0} (r : Result T E) (P : Type 0) → is_err r ≡ false → OnOk r P → P
 on_ok (Ok x) P e p = p
 on_ok (Err x) P e p = absurd (false≢true (sym e))
+
+pub when_ok : {T E : Type 0} (r : Result T E) (P : Type 0) → is_ok r ≡ true → OnOk r P → P
+when_ok (Ok x) P e p = p
+when_ok (Err x) P e p = absurd (false≢true e)
 
 -- a node that stopped while its record was written
 pub stopped : {D : Type 0} (state : D → DiskState) (old new : AppenderState D) (records : List Record) (r : Record) (added : Option Record) (body : List ℕ) → body ≡ record_bytes r → added ≡ Some r
@@ -118,12 +166,13 @@ stops_earlier state faults old mid new records before r stop goes is_disk rests 
 
 -- a logged record that the memory then takes leaves the node up
 pub up_logged : {D : Type 0} (state : D → DiskState) (redo : AppenderState D) (m after : Memory) (r : Record) (count : ℕ) → IsLogged state redo m r count → IsMemory after → HasDecisionRoom after
-    → after.records.items ≡ m.records.items ++ r ∷ [] → vec_len after.held ≤ vec_len m.held + 1 → IsNodeUp state redo after
-up_logged state redo m after r count logged memory room records held = record {
+    → after.records.items ≡ m.records.items ++ r ∷ [] → after.cut ≡ m.cut → vec_len after.held ≤ vec_len m.held + 1 → IsNodeUp state redo after
+up_logged state redo m after r count logged memory room records cut held = record {
   memory = memory;
   room = room;
   started = logged.started;
-  log = subst (λ (l : List Record). IsLogFor state redo (bodies_of l)) (sym records) logged.log;
+  log = subst (λ (l : List Record). IsLogFor state redo (bodies_of l)) (sym (more_on_disk m after r logged.within records cut)) logged.log;
+  within = more_within m after r logged.within records cut;
   spare_bodies = omega (arith, held, logged.spare_bodies);
   spare_bytes = omega (arith, held, logged.spare_bytes);
 }

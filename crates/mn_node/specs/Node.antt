@@ -1,9 +1,10 @@
 -- A node: its log, its memory, and what it does with a request.
-use Rattle.std.specs.Prelude.{◌≡◌, ◌≤◌, ◌<◌, ◌⊎◌, ◌+◌, ◌-◌, ◌*◌, ◌^◌, ℕ, List, [], ◌∷◌, ◌++◌}
-use Rattle.std.specs.Prelude.{length, map, reverse, Option, Some, None, ⊤, vec_len, vec_capacity}
+use Rattle.std.specs.Prelude.{◌≡◌, ◌≢◌, ◌≤◌, ◌<◌, ◌⊎◌, ◌+◌, ◌-◌, ◌*◌, ◌^◌, ℕ, List, [], ◌∷◌, ◌++◌}
+use Rattle.std.specs.Prelude.{length, map, reverse, take, drop, Bool, true, false, Option, Some}
+use Rattle.std.specs.Prelude.{None, ⊤, vec_len, vec_capacity}
 use Rattle.mn_io.specs.DiskModel.{DiskState, IsStable, LeavesOnly, DiskStays}
 use Rattle.mn_io.specs.Faults.{Rose}
-use Rattle.mn_redo.specs.Grammar.{header, IsStaged, Stands}
+use Rattle.mn_redo.specs.Grammar.{IsStagedAt, Stands}
 use Rattle.mn_redo.specs.Appender.{AppenderState, IsLogOf}
 use Rattle.mn_redo.specs.Redo.{HasHeader, StandsFor}
 use Rattle.mn_redo.specs.declared.redo.Phase.TheVariants.{Started}
@@ -13,11 +14,12 @@ use Rattle.mn_mini.specs.declared.reply.NodeReply.{NodeReply}
 use Rattle.mn_mini.specs.declared.reply.NodeReply.TheVariants as Say
 use Rattle.mn_mini.specs.Node.{Response, answer}
 use Rattle.mn_mini.specs.RecordGrammar.{record_bytes}
+use Rattle.mn_mini.specs.Short.{short}
 use Rattle.mn_node.specs.declared.memory.Memory.{Memory}
 use Rattle.mn_base.specs.declared.gate.StopAt.{StopAt}
 use Rattle.mn_base.specs.declared.gate.StopAt.TheVariants.{Before, Half, After}
 use Rattle.mn_node.specs.declared.logging.Logging.{Logging}
-use Rattle.mn_node.specs.declared.logging.Logging.TheVariants.{NoRoom, Stopped, Logged}
+use Rattle.mn_node.specs.declared.logging.Logging.TheVariants.{NoRoom, Unshortened, Stopped, Logged}
 use Rattle.mn_node.specs.declared.requests.Served.{Served}
 use Rattle.mn_node.specs.declared.requests.Served.TheVariants as Serve
 use Rattle.mn_page.specs.Base.{base_of}
@@ -27,20 +29,36 @@ use Rattle.mn_node.specs.Memory.{IsMemory, HasDecisionRoom}
 abbrev pub bodies_of : List Record → List (List ℕ)
 bodies_of records = map record_bytes records
 
+-- the records, of which the first so many are shortened
+abbrev pub listed : ℕ → List Record → List Record
+listed cut records = short (take cut records) ++ drop cut records
+
+-- the list in the log of a node with this memory
+abbrev pub on_disk : Memory → List Record
+on_disk m = listed m.cut m.records.items
+
+-- the bytes stand for the records: their list is that of the records, of which the first, so many
+-- as there may be, are shortened
+pub record StandsUpTo (node nodes : ℕ) (content : List ℕ) (records : List Record) : Type 0 where
+  pub cut : ℕ
+  pub within : cut ≤ length records
+  pub stands : Stands node nodes content (bodies_of (listed cut records))
+
 -- the log is that of these bodies, and an honest disk stands for them
 pub record IsLogFor {D : Type 0} (state : D → DiskState) (redo : AppenderState D)
     (bodies : List (List ℕ)) : Type 0 where
   pub log : IsLogOf state redo bodies
   pub stands : (state redo.disk).honest → StandsFor (state redo.disk) redo.node redo.nodes bodies
 
--- a node that is up: its log is that of its records, and there is room for a decision of each held
--- part
+-- a node that is up: its log is that of its records, the first perhaps shortened, and there is room
+-- for a decision of each held part
 pub record IsNodeUp {D : Type 0} (state : D → DiskState) (redo : AppenderState D) (m : Memory)
     : Type 0 where
   pub memory : IsMemory m
   pub room : HasDecisionRoom m
   pub started : redo.phase ≡ Started
-  pub log : IsLogFor state redo (bodies_of m.records.items)
+  pub log : IsLogFor state redo (bodies_of (on_disk m))
+  pub within : m.cut ≤ length m.records.items
   pub spare_bodies : vec_len m.held ≤ redo.spare_bodies
   pub spare_bytes : 11 * vec_len m.held ≤ redo.spare_bytes
 
@@ -79,17 +97,26 @@ added_to records (Some r) = records ++ r ∷ []
 abbrev pub node_answer : Memory → Request → Response
 node_answer m request = answer (base_of m.nodes m.node) (reverse m.records.items) request
 
+-- the bytes stand for the one list or for the other
+abbrev pub IsEither : ℕ → ℕ → List Record → List Record → List ℕ → Type 0
+IsEither node nodes list other c =
+    Stands node nodes c (bodies_of list) ⊎ Stands node nodes c (bodies_of other)
+
+-- each image of the disk stands for the one list or for the other
+abbrev pub StandsForEither : DiskState → ℕ → ℕ → List Record → List Record → Type 0
+StandsForEither disk node nodes list other =
+    (c : List ℕ) → disk.images c → IsEither node nodes list other c
+
 -- each image of the disk stands for these records, or for these and the one
 abbrev pub StandsWithOrWithout : DiskState → ℕ → ℕ → List Record → Option Record → Type 0
 StandsWithOrWithout disk node nodes records added =
-    (c : List ℕ) → disk.images c → Stands node nodes c (bodies_of records)
-    ⊎ Stands node nodes c (bodies_of (added_to records added))
+    StandsForEither disk node nodes records (added_to records added)
 
--- the bytes stand for these records, or for these and the one
-abbrev pub IsWithOrWithout : ℕ → ℕ → List Record → Option Record → List ℕ → Type 0
-IsWithOrWithout node nodes records added c =
-    Stands node nodes c (bodies_of records)
-    ⊎ Stands node nodes c (bodies_of (added_to records added))
+-- the bytes stand for these records, or for these and the one, and in both the first may be
+-- shortened
+abbrev pub IsUpToWithOrWithout : ℕ → ℕ → List Record → Option Record → List ℕ → Type 0
+IsUpToWithOrWithout node nodes records added c =
+    StandsUpTo node nodes c records ⊎ StandsUpTo node nodes c (added_to records added)
 
 -- what a crash at any moment of a call leaves: the disk wasn't touched, or it leaves only bytes
 -- that have P, where the disk is honest
@@ -106,7 +133,7 @@ DiskStaysIfHonest state old new =
 pub record IsHalfWritten (disk : DiskState) (node nodes : ℕ) (bodies : List (List ℕ))
     (body : List ℕ)
     : Type 0 where
-  pub staged : IsStaged (header node nodes) bodies body disk.content
+  pub staged : IsStagedAt node nodes bodies body disk.content
   pub stable : IsStable disk
 
 -- Where a record was to be put into the log and wasn't, the disk failed, or a stop was asked for.
@@ -141,6 +168,38 @@ pub record HasStopped {D : Type 0} (state : D → DiskState) (faults : D → ℕ
   pub stands : (state old).honest → StandsWithOrWithout (state new) node nodes records (Some r)
   pub at : StopLeaves state faults old new node nodes (bodies_of records) (record_bytes r) stop
 
+-- the disk failed while the log was shortened: it has its list, or that of all records, shortened
+pub record FailsToShorten {D : Type 0} (state : D → DiskState) (faults : D → ℕ) (old new : D)
+    (node nodes : ℕ) (list records : List Record) : Type 0 where
+  pub rose : Rose (faults old) (faults new)
+  pub stands : (state old).honest → StandsForEither (state new) node nodes list (short records)
+
+-- before a record was to be put into the log nothing was done; or the log was shortened, and so
+-- many records stand shortened now, all of them
+abbrev pub MayHaveShortened : {D : Type 0} → (D → DiskState) → (D → ℕ) → D → D → List Record → ℕ
+    → ℕ → Type 0
+MayHaveShortened state faults old between records before after =
+    ((between ≡ old) × (after ≡ before))
+    ⊎ ((after ≡ length records) × (faults old ≤ faults between)
+    × ((state old).honest → (state between).honest))
+
+-- a node that stopped at the record of a request, once its log was shortened where that was due
+pub record StopsAtRecord {D : Type 0} (state : D → DiskState) (faults : D → ℕ) (old new : D)
+    (node nodes : ℕ) (records : List Record) (before after : ℕ) (r : Record)
+    (stop : Option StopAt) : Type 0 where
+  pub between : D
+  pub shortened : MayHaveShortened state faults old between records before after
+  pub stopped : HasStopped state faults between new node nodes (listed after records) r stop
+
+-- how a node stopped: the disk failed while its log was shortened, or it stopped at the record
+abbrev pub Stops : {D : Type 0} → (D → DiskState) → (D → ℕ) → D → D → ℕ → ℕ → List Record → ℕ → ℕ
+    → Bool → Record → Option StopAt → Type 0
+Stops state faults old new node nodes records before after true r stop =
+    (after ≡ before)
+    × FailsToShorten state faults old new node nodes (listed before records) records
+Stops state faults old new node nodes records before after false r stop =
+    StopsAtRecord state faults old new node nodes records before after r stop
+
 -- no stop was asked for, or there is nothing to stop at
 abbrev pub NoStopIsDue : Option StopAt → Option Record → Type 0
 NoStopIsDue None added = ⊤
@@ -151,7 +210,7 @@ NoStopIsDue (Some stop) added = added ≡ None
 abbrev pub Replies : {D : Type 0} → (D → DiskState) → Memory → Request → Option StopAt → NodeReply
     → AppenderState D → Memory → Type 0
 Replies state m request stop Say.NoMemory new after =
-    IsNodeUp state new after × (after.records.items ≡ m.records.items)
+    IsNodeUp state new after × (after.records.items ≡ m.records.items) × (after.cut ≡ m.cut)
 Replies state m request stop Say.Stopped new after = ⊥
 Replies state m request stop Say.Down new after = ⊥
 Replies state m request stop reply new after =
@@ -165,9 +224,26 @@ abbrev pub Handled : {D : Type 0} → (D → DiskState) → (D → ℕ) → Appe
     → Option StopAt → Served → AppenderState D → Memory → Type 0
 Handled state faults redo m request stop (Serve.Replied reply) new after =
     Replies state m request stop reply new after
-Handled state faults redo m request stop (Serve.Stopped left) new after =
+Handled state faults redo m request stop (Serve.Stopped left cutting) new after =
     (after.records.items ≡ m.records.items) × ((node_answer m request).added ≡ Some left)
-    × HasStopped state faults redo.disk new.disk redo.node redo.nodes m.records.items left stop
+    × Stops state faults redo.disk new.disk redo.node redo.nodes m.records.items m.cut after.cut
+    cutting left stop
+
+-- a reply that is Done
+abbrev pub IsDone : NodeReply → Type 0
+IsDone (Say.Done reads) = ⊤
+IsDone reply = ⊥
+
+abbrev pub RepliesDone : Served → Type 0
+RepliesDone (Serve.Replied reply) = IsDone reply
+RepliesDone served = ⊥
+
+-- where the log may be shortened, its tail is short behind a record that was added
+abbrev pub KeepsTailShort : {D : Type 0} → AppenderState D → Option Record → Served
+    → AppenderState D → Type 0
+KeepsTailShort old added served new =
+    old.number ≢ 2 ^ 63 → (r : Record) → added ≡ Some r → RepliesDone served
+    → new.tail < 2 ^ 20 + 5 + length (record_bytes r)
 
 -- the log has the record, stable on an honest disk, and the memory has the room for it
 pub record IsLogged {D : Type 0} (state : D → DiskState) (redo : AppenderState D) (m : Memory)
@@ -180,7 +256,8 @@ pub record IsLogged {D : Type 0} (state : D → DiskState) (redo : AppenderState
   pub votes : vec_len m.held < vec_capacity m.held
   pub ranges : count ≤ m.locks.spare
   pub started : redo.phase ≡ Started
-  pub log : IsLogFor state redo (bodies_of (m.records.items ++ r ∷ []))
+  pub log : IsLogFor state redo (bodies_of (on_disk m ++ r ∷ []))
+  pub within : m.cut ≤ length m.records.items
   pub spare_bodies : vec_len m.held + 1 ≤ redo.spare_bodies
   pub spare_bytes : 11 * (vec_len m.held + 1) ≤ redo.spare_bytes
 
@@ -188,10 +265,15 @@ pub record IsLogged {D : Type 0} (state : D → DiskState) (redo : AppenderState
 abbrev pub LoggingLeaves : {D : Type 0} → (D → DiskState) → (D → ℕ) → AppenderState D → Memory
     → Record → ℕ → Option StopAt → Logging → AppenderState D → Memory → Type 0
 LoggingLeaves state faults redo m r count stop NoRoom new after =
-    IsNodeUp state new after × (after.records.items ≡ m.records.items)
+    IsNodeUp state new after × (after.records.items ≡ m.records.items) × (after.cut ≡ m.cut)
+LoggingLeaves state faults redo m r count stop Unshortened new after =
+    (after.records.items ≡ m.records.items)
+    × Stops state faults redo.disk new.disk redo.node redo.nodes m.records.items m.cut after.cut
+    true r stop
 LoggingLeaves state faults redo m r count stop Stopped new after =
     (after.records.items ≡ m.records.items)
-    × HasStopped state faults redo.disk new.disk redo.node redo.nodes m.records.items r stop
+    × Stops state faults redo.disk new.disk redo.node redo.nodes m.records.items m.cut after.cut
+    false r stop
 LoggingLeaves state faults redo m r count stop Logged new after =
     IsLogged state new after r count × (after.records.items ≡ m.records.items)
     × (vec_len after.held ≡ vec_len m.held) × (stop ≡ None)

@@ -1,9 +1,10 @@
 -- What a restart finds.
-use Rattle.std.specs.Prelude.{◌≡◌, ◌≢◌, ◌≤◌, ◌<◌, ◌⊎◌, ℕ, zero, suc, Bool, true, false, List, []}
-use Rattle.std.specs.Prelude.{◌∷◌, ◌++◌, length, take, get_or, Option, Some, None, ⊤}
+use Rattle.std.specs.Prelude.{◌≡◌, ◌≢◌, ◌≤◌, ◌<◌, ◌⊎◌, ℕ, zero, suc, Bool, true, false, not, ◌&&◌, List}
+use Rattle.std.specs.Prelude.{[], ◌∷◌, ◌++◌, length, take, get_or, Option, Some, None, ⊤}
 use Rattle.mn_io.specs.DiskModel.{DiskState}
 use Rattle.mn_io.specs.Faults.{Rose}
 use Rattle.mn_redo.specs.Grammar.{IsDamaged, places}
+use Rattle.mn_redo.specs.Log.{FrontState}
 use Rattle.mn_redo.specs.declared.open.OpenCause.{OpenCause}
 use Rattle.mn_redo.specs.declared.open.OpenCause.TheVariants as Cause
 use Rattle.mn_mini.specs.declared.record.Record.{Record}
@@ -41,11 +42,10 @@ abbrev pub AreBodiesWithOrWithout : List (List ℕ) → List Record → Option R
 AreBodiesWithOrWithout bodies records pending false = bodies ≡ bodies_of records
 AreBodiesWithOrWithout bodies records pending true = AreBodiesWithPending bodies records pending
 
--- the records, with the one that may be behind them where that is there
-abbrev pub records_found : List Record → Option Record → Bool → List Record
-records_found records None there = records
-records_found records (Some r) false = records
-records_found records (Some r) true = records ++ r ∷ []
+-- a log that has the other list has the pending record, but where the disk failed while the log was
+-- shortened
+abbrev pub is_there : Bool → Bool → Bool
+is_there cutting other = other && not cutting
 
 -- they are neither
 abbrev pub AreOtherBodies : List (List ℕ) → List Record → Option Record → Type 0
@@ -77,42 +77,48 @@ pub record IsFirstDifference (bodies : List (List ℕ)) (records : List Record)
 abbrev pub AreAbsent : Option Record → Option Record → Type 0
 AreAbsent kept found = (kept ≡ None) × (found ≡ None)
 
--- a body spells no record, and its gate is at this place
-pub record IsBadBody (bodies : List (List ℕ)) (place : ℕ) : Type 0 where
+-- a body of a log that begins at a place spells no record, and its gate is at this place
+pub record IsBadBody (start : ℕ) (bodies : List (List ℕ)) (place : ℕ) : Type 0 where
   pub number : ℕ
   pub within : number < length bodies
   pub bad : SpellsNone (get_or bodies number [])
-  pub place_is : place ≡ get_or (places 16 bodies) number 0
+  pub place_is : place ≡ get_or (places start bodies) number 0
 
 -- what damage names: the first record that differs; or the place of the gate of a body that is no
 -- record, and no record
-abbrev pub DamageNames : List (List ℕ) → List Record → Option Record → ℕ → Option Record
+abbrev pub DamageNames : ℕ → List (List ℕ) → List Record → Option Record → ℕ → Option Record
     → Option Record → Type 0
-DamageNames bodies records pending at kept found =
-    (AreAbsent kept found × IsBadBody bodies at)
+DamageNames start bodies records pending at kept found =
+    (AreAbsent kept found × IsBadBody start bodies at)
     ⊎ IsFirstDifference bodies records pending at kept found
 
 -- a body that spells no record, which is told by its place alone
-abbrev pub TellsBadBody : List (List ℕ) → RestartError → Type 0
-TellsBadBody bodies Fault = ⊥
-TellsBadBody bodies (Damaged place kept found) = AreAbsent kept found × IsBadBody bodies place
-TellsBadBody bodies NoMemory = ⊤
+abbrev pub TellsBadBody : FrontState → RestartError → Type 0
+TellsBadBody log Fault = ⊥
+TellsBadBody log (Damaged place kept found) =
+    AreAbsent kept found × IsBadBody log.start log.bodies place
+TellsBadBody log NoMemory = ⊤
 
 -- what the damage at a number names: it, the node's record and the disk's; or the place of a body,
 -- and no record
-abbrev pub TellsDifferenceAt : List (List ℕ) → ℕ → Option Record → RestartError → Type 0
-TellsDifferenceAt bodies at kept Fault = ⊥
-TellsDifferenceAt bodies at kept (Damaged place named found) =
-    (AreAbsent named found × IsBadBody bodies place)
-    ⊎ ((place ≡ at) × (named ≡ kept) × IsSpelledAt bodies at found)
-TellsDifferenceAt bodies at kept NoMemory = ⊤
+abbrev pub TellsDifferenceAt : FrontState → ℕ → Option Record → RestartError → Type 0
+TellsDifferenceAt log at kept Fault = ⊥
+TellsDifferenceAt log at kept (Damaged place named found) =
+    (AreAbsent named found × IsBadBody log.start log.bodies place)
+    ⊎ ((place ≡ at) × (named ≡ kept) × IsSpelledAt log.bodies at found)
+TellsDifferenceAt log at kept NoMemory = ⊤
+
+abbrev pub IsDamage : RestartError → Type 0
+IsDamage (Damaged at kept found) = ⊤
+IsDamage error = ⊥
 
 -- what a comparison with a log says
-abbrev pub TellsOtherRecords : List (List ℕ) → List Record → Option Record → RestartError → Type 0
-TellsOtherRecords bodies records pending Fault = ⊥
-TellsOtherRecords bodies records pending (Damaged at kept found) =
-    AreOtherBodies bodies records pending × DamageNames bodies records pending at kept found
-TellsOtherRecords bodies records pending NoMemory = ⊤
+abbrev pub TellsOtherRecords : FrontState → List Record → Option Record → RestartError → Type 0
+TellsOtherRecords log records pending Fault = ⊥
+TellsOtherRecords log records pending (Damaged at kept found) =
+    AreOtherBodies log.bodies records pending
+    × DamageNames log.start log.bodies records pending at kept found
+TellsOtherRecords log records pending NoMemory = ⊤
 
 -- a place where bytes are no log: 0 for a disk that reads as fresh, or that of the damage of some
 -- bytes that the disk gave
@@ -144,5 +150,6 @@ abbrev pub FailsRestart : {D : Type 0} → (D → DiskState) → (D → ℕ) →
 FailsRestart state faults old new records pending Fault = Rose (faults old) (faults new)
 FailsRestart state faults old new records pending (Damaged at kept found) =
     ((state old).honest → ⊥) × ((AreAbsent kept found × IsNoLog at)
-    ⊎ ((bodies : List (List ℕ)) × DamageNames bodies records pending at kept found))
+    ⊎ ((start : ℕ)
+    × ((bodies : List (List ℕ)) × DamageNames start bodies records pending at kept found)))
 FailsRestart state faults old new records pending NoMemory = ⊤

@@ -1,6 +1,6 @@
 -- What contracts see of a node.
 use Rattle.std.specs.Prelude.{◌≡◌, ◌<◌, ◌≤◌, ℕ, Bool, true, false, List, [], reverse, get_or}
-use Rattle.std.specs.Prelude.{length, Option, Some, None, take}
+use Rattle.std.specs.Prelude.{length, Option, Some, None, take, ⊤}
 use Rattle.std.specs.List.{AllByRecursion}
 use Rattle.mn_base.specs.declared.gate.StopAt.{StopAt}
 use Rattle.mn_io.specs.DiskModel.{DiskState}
@@ -9,38 +9,65 @@ use Rattle.mn_redo.specs.Grammar.{places}
 use Rattle.mn_redo.specs.Redo.{HasHeader, RedoState, StandsFor}
 use Rattle.mn_mini.specs.declared.record.Record.{Record}
 use Rattle.mn_mini.specs.declared.request.Request.{Request}
+use Rattle.mn_mini.specs.declared.request.Request.TheVariants as Ask
 use Rattle.mn_mini.specs.declared.reply.NodeReply.{NodeReply}
 use Rattle.mn_mini.specs.declared.reply.NodeReply.TheVariants as Say
 use Rattle.mn_mini.specs.Laws.{PartsAreApart}
 use Rattle.mn_mini.specs.Node.{Response, answer, held_parts}
 use Rattle.mn_mini.specs.RecordGrammar.{IsRecord, SpellsNone}
+use Rattle.mn_mini.specs.Short.{short}
 use Rattle.mn_node.specs.declared.memory.Memory.{Memory}
 use Rattle.mn_page.specs.Base.{base_of}
-use Rattle.mn_node.specs.Node.{IsNodeUp, NoStopIsDue, HasStopped, StandsWithOrWithout, bodies_of}
-use Rattle.mn_node.specs.Node.{added_to}
+use Rattle.mn_node.specs.Node.{IsNodeUp, NoStopIsDue, StandsForEither, Stops, added_to, bodies_of}
+use Rattle.mn_node.specs.Node.{IsUpToWithOrWithout, StandsUpTo, listed, on_disk}
 
--- its disk, its number and that of all nodes, its records, the oldest first, and whether it is
--- down: then beside the record of the request inside which it stopped, which may stand on the disk
--- or not
+-- its disk, its number and that of all nodes, its records, the oldest first, how many of them, the
+-- first, are shortened in its log, the number of the log's current area and the bytes of records
+-- since it was read or shortened, and whether the node is down: then beside the record of the
+-- request inside which it stopped, which may stand on the disk or not, and whether the disk failed
+-- while the log was shortened
 pub record NodeState (D : Type 0) : Type 0 where
   pub disk : D
   pub node : ℕ
   pub nodes : ℕ
   pub records : List Record
+  pub cut : ℕ
+  pub number : ℕ
+  pub tail : ℕ
   pub down : Bool
   pub pending : Option Record
+  pub cutting : Bool
 
--- an honest disk stands for the records, and while the node is down, for these or for these and the
--- pending one
+-- what the disk of a node that is down may have in place of its list: where it failed while the log
+-- was shortened, all records, shortened; else the list with the pending record
+abbrev pub other_list : Bool → List Record → List Record → Option Record → List Record
+other_list true list records pending = short records
+other_list false list records pending = added_to list pending
+
+-- the list that was found: its own, or the other
+abbrev pub list_found : Memory → Option Record → Bool → Bool → List Record
+list_found m pending cutting false = on_disk m
+list_found m pending cutting true = other_list cutting (on_disk m) m.records.items pending
+
+-- the pending record that its disk may have behind its list
+abbrev pub left_behind_list : Bool → Option Record → Option Record
+left_behind_list true pending = None
+left_behind_list false pending = pending
+
+-- an honest disk has the list of the records, the first perhaps shortened, and while the node is
+-- down, that or the other
 pub record IsNode {D : Type 0} (state : D → DiskState) (redo : AppenderState D) (m : Memory)
-    (down : Bool) (pending : Option Record) : Type 0 where
+    (down : Bool) (pending : Option Record) (cutting : Bool) : Type 0 where
   pub up : down ≡ false → IsNodeUp state redo m
   pub settled : down ≡ false → pending ≡ None
+  pub whole : down ≡ false → cutting ≡ false
+  pub within : m.cut ≤ length m.records.items
   pub sound : AllByRecursion IsRecord (added_to m.records.items pending)
   pub apart : PartsAreApart (held_parts (reverse m.records.items))
   pub apart_left : PartsAreApart (held_parts (reverse (added_to m.records.items pending)))
   pub stands : (state redo.disk).honest
-      → StandsWithOrWithout (state redo.disk) redo.node redo.nodes m.records.items pending
+      → StandsForEither (state redo.disk) redo.node redo.nodes (on_disk m)
+      (list_found m pending cutting true)
   pub header : (state redo.disk).honest → HasHeader (state redo.disk)
   pub node : m.node ≡ redo.node
   pub nodes : m.nodes ≡ redo.nodes
@@ -50,6 +77,27 @@ pub record IsNode {D : Type 0} (state : D → DiskState) (redo : AppenderState D
 abbrev pub StandsForRecords : DiskState → ℕ → ℕ → List Record → Type 0
 StandsForRecords disk node nodes records =
     disk.honest → StandsFor disk node nodes (bodies_of records)
+
+-- each image of the disk stands for the records, of which the first may be shortened
+abbrev pub StandsForUpTo : DiskState → ℕ → ℕ → List Record → Type 0
+StandsForUpTo disk node nodes records =
+    (c : List ℕ) → disk.images c → StandsUpTo node nodes c records
+
+-- the same where the disk is honest
+abbrev pub StandsUpToAll : DiskState → ℕ → ℕ → List Record → Type 0
+StandsUpToAll disk node nodes records = disk.honest → StandsForUpTo disk node nodes records
+
+-- each image of the disk stands for these records, or for these and the one, and in both the first
+-- may be shortened
+abbrev pub StandsUpToWithOrWithout : DiskState → ℕ → ℕ → List Record → Option Record → Type 0
+StandsUpToWithOrWithout disk node nodes records added =
+    (c : List ℕ) → disk.images c → IsUpToWithOrWithout node nodes records added c
+
+-- a vote or an execution
+abbrev pub MayShorten : Request → Type 0
+MayShorten (Ask.Prepare tid participants part) = ⊤
+MayShorten (Ask.Exec tid part) = ⊤
+MayShorten request = ⊥
 
 -- the reply to a request, and the record that it adds, by the records alone
 abbrev pub response_to : {D : Type 0} → NodeState D → Request → Response
@@ -72,18 +120,19 @@ pub record NodeKeepsDisk {D : Type 0} (state : D → DiskState) (faults : D → 
 abbrev pub Answers : {D : Type 0} → (D → DiskState) → (D → ℕ) → NodeState D → Request
     → Option StopAt → NodeReply → NodeState D → Type 0
 Answers state faults old request stop Say.NoMemory new =
-    (old.down ≡ false) × (new.down ≡ false) × (new.records ≡ old.records)
-    × StandsForRecords (state new.disk) new.node new.nodes new.records
+    (old.down ≡ false) × (new.down ≡ false) × (new.records ≡ old.records) × (new.cut ≡ old.cut)
+    × StandsForRecords (state new.disk) new.node new.nodes (listed new.cut new.records)
 Answers state faults old request stop Say.Stopped new =
     (old.down ≡ false) × (new.down ≡ true) × (new.records ≡ old.records)
     × (r : Record) × ((response_to old request).added ≡ Some r) × (new.pending ≡ Some r)
-    × HasStopped state faults old.disk new.disk old.node old.nodes old.records r stop
+    × Stops state faults old.disk new.disk old.node old.nodes old.records old.cut new.cut new.cutting
+    r stop
 Answers state faults old request stop Say.Down new = (old.down ≡ true) × (new ≡ old)
 Answers state faults old request stop reply new =
     (old.down ≡ false) × (new.down ≡ false) × ((response_to old request).reply ≡ reply)
     × (new.records ≡ added_to old.records (response_to old request).added)
     × NoStopIsDue stop (response_to old request).added
-    × StandsForRecords (state new.disk) new.node new.nodes new.records
+    × StandsForRecords (state new.disk) new.node new.nodes (listed new.cut new.records)
 
 -- what is asked of a log before its node is started: if its bodies are records, no two parts of
 -- different ids that they hold conflict
@@ -97,14 +146,15 @@ pub record AreRecords (bodies : List (List ℕ)) (records : List Record) : Type 
   pub bodies_are : bodies ≡ bodies_of records
   pub sound : AllByRecursion IsRecord records
 
--- the first body that spells no record is the one whose gate is at this place
-pub record IsFirstBadBody (bodies : List (List ℕ)) (at : ℕ) : Type 0 where
+-- of bodies whose log begins at a place, the first that spells no record is the one whose gate is at
+-- this place
+pub record IsFirstBadBody (start : ℕ) (bodies : List (List ℕ)) (at : ℕ) : Type 0 where
   pub number : ℕ
   pub within : number < length bodies
   pub before : List Record
   pub records : AreRecords (take number bodies) before
   pub bad : SpellsNone (get_or bodies number [])
-  pub at_is : at ≡ get_or (places 16 bodies) number 0
+  pub at_is : at ≡ get_or (places start bodies) number 0
 
 -- a node that was started on a log
 pub record IsStarted {D : Type 0} (state : D → DiskState) (redo : RedoState D) (n : NodeState D)
@@ -113,4 +163,5 @@ pub record IsStarted {D : Type 0} (state : D → DiskState) (redo : RedoState D)
   pub records : AreRecords redo.bodies n.records
   pub node : n.node ≡ redo.node
   pub nodes : n.nodes ≡ redo.nodes
+  pub uncut : n.cut ≡ 0
   pub stands : StandsForRecords (state n.disk) n.node n.nodes n.records

@@ -14,6 +14,7 @@ mod part;
 mod replay;
 mod requests;
 mod restart;
+mod shortening;
 mod space;
 mod start;
 

@@ -32,6 +32,8 @@ pub struct Memory {
     pub node: u8,
     pub nodes: u8,
     pub records: Vec<Record>,
+    /// How many of the records, the first, are shortened in the log.
+    pub cut: usize,
     pub space: Space,
     pub locks: LockTable,
     pub forced: Vec<Tid>,
@@ -200,6 +202,7 @@ impl Memory {
         ensures room { HasDecisionRoom self.new }
         ensures records { self.new.records.items ≡ self.old.records.items ++ vote ∷ [] }
         ensures held { vec_len self.new.held ≡ vec_len self.old.held + 1 }
+        ensures cut { self.new.cut ≡ self.old.cut }
         ensures node { self.new.node ≡ self.old.node }
         ensures nodes { self.new.nodes ≡ self.old.nodes }
     {
@@ -223,6 +226,7 @@ impl Memory {
         ensures room { HasDecisionRoom self.new }
         ensures records { self.new.records.items ≡ self.old.records.items ++ executed ∷ [] }
         ensures held { vec_len self.new.held ≡ vec_len self.old.held }
+        ensures cut { self.new.cut ≡ self.old.cut }
         ensures node { self.new.node ≡ self.old.node }
         ensures nodes { self.new.nodes ≡ self.old.nodes }
     {
@@ -243,6 +247,7 @@ impl Memory {
         ensures records { self.new.records.items
             ≡ self.old.records.items ++ Record.Forced tid ∷ [] }
         ensures held { vec_len self.new.held ≡ vec_len self.old.held }
+        ensures cut { self.new.cut ≡ self.old.cut }
         ensures node { self.new.node ≡ self.old.node }
         ensures nodes { self.new.nodes ≡ self.old.nodes }
     {
@@ -262,6 +267,7 @@ impl Memory {
         ensures records { self.new.records.items
             ≡ self.old.records.items ++ Record.Decided tid yes ∷ [] }
         ensures held { vec_len self.new.held + 1 ≤ vec_len self.old.held }
+        ensures cut { self.new.cut ≡ self.old.cut }
         ensures node { self.new.node ≡ self.old.node }
         ensures nodes { self.new.nodes ≡ self.old.nodes }
     {
@@ -287,6 +293,7 @@ impl Memory {
         ensures ranges { OnOk result (ranges ≤ self.new.locks.spare) }
         ensures records { self.new.records.items ≡ self.old.records.items }
         ensures held { vec_len self.new.held ≡ vec_len self.old.held }
+        ensures cut { self.new.cut ≡ self.old.cut }
         ensures node { self.new.node ≡ self.old.node }
         ensures nodes { self.new.nodes ≡ self.old.nodes }
     {

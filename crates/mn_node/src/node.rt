@@ -1,5 +1,5 @@
-ghost use Rattle.std.specs.Prelude.{◌≡◌, ◌≢◌, ◌≤◌, ◌<◌, ℕ, List, None, true, false, IfOk, IfErr};
-ghost use Rattle.std.specs.Prelude.{OnOk, OnErr};
+ghost use Rattle.std.specs.Prelude.{◌≡◌, ◌≢◌, ◌≤◌, ◌<◌, ◌+◌, ◌^◌, ℕ, List, length, None, Some};
+ghost use Rattle.std.specs.Prelude.{true, false, IfOk, IfErr, OnOk, OnErr};
 ghost use Rattle.std.specs.List.{AllByRecursion};
 ghost use Rattle.mn_io.specs.Faults.{Rose};
 ghost use Rattle.mn_mini.specs.declared.record.Record.{Record};
@@ -7,14 +7,15 @@ ghost use Rattle.mn_mini.specs.declared.reply.NodeReply.{NodeReply};
 ghost use Rattle.mn_redo.specs.Grammar.{Stands};
 ghost use Rattle.mn_redo.specs.Redo.{StandsFor};
 ghost use Rattle.mn_redo.specs.declared.redo.Phase.TheVariants.{Closing, Started};
-ghost use Rattle.mn_mini.specs.RecordGrammar.{IsRecord};
+ghost use Rattle.mn_mini.specs.RecordGrammar.{IsRecord, record_bytes};
 ghost use Rattle.mn_mini.specs.Sound.{Fits, IsDecide, IsSoundRequest};
 ghost use Rattle.mn_io.specs.DiskModel.{LeavesOnly, NoneNew, DiskStays, WritesNothing};
-ghost use Rattle.mn_node.specs.Node.{IsWithOrWithout, StandsWithOrWithout, added_to, bodies_of};
+ghost use Rattle.mn_node.specs.Node.{IsDone, IsUpToWithOrWithout, added_to, bodies_of, listed};
 ghost use Rattle.mn_node.specs.Restart.{FailsRestart, RestartLeaves};
 ghost use Rattle.mn_node.specs.State.{Answers, NodeKeepsDisk, IsFirstBadBody, IsStarted};
 ghost use Rattle.mn_node.specs.State.{HoldsPartsApart};
-ghost use Rattle.mn_node.specs.State.{StandsForRecords, response_to};
+ghost use Rattle.mn_node.specs.State.{MayShorten, StandsForRecords, StandsUpToAll};
+ghost use Rattle.mn_node.specs.State.{StandsUpToWithOrWithout, left_behind_list, response_to};
 ghost use Rattle.mn_node.specs.declared.start.StartCause.TheVariants as causes;
 
 use crate::memory::Memory;
@@ -31,8 +32,9 @@ use std::marker::Model;
 /// A memory node: its records, on a disk, and what they make of its space, its locks and the ids
 /// that may not vote.
 ///
-/// While its disk is honest, each image of it stands for the node's records; while the node is
-/// down, for these, or for these and the record of the request inside which it stopped.
+/// While its disk is honest, each image of it stands for the node's records, of which the first may
+/// stand there shortened; while the node is down, for these, or for these and the record of the
+/// request inside which it stopped.
 #[derive(Drop)]
 pub struct Node<D: Disk> {
     redo: Box<Appender<D>>,
@@ -42,6 +44,8 @@ pub struct Node<D: Disk> {
     is_down: bool,
     /// While it is down: the record of the request inside which it stopped.
     pending: Option<Record>,
+    /// And whether the disk failed then while the log was shortened.
+    cutting: bool,
 }
 
 impl<D: Disk> Model for Node<D> {
@@ -54,12 +58,16 @@ impl<D: Disk> Model for Node<D> {
       node = n.redo.value.node;
       nodes = n.redo.value.nodes;
       records = n.memory.records.items;
+      cut = n.memory.cut;
+      number = n.redo.value.number;
+      tail = n.redo.value.tail;
       down = n.is_down;
-      pending =
-          n.pending;
+      pending = n.pending;
+      cutting =
+          n.cutting;
     } };
 
-    ghost invariant = { λ n. IsNode D.state n.redo.value n.memory n.is_down n.pending };
+    ghost invariant = { λ n. IsNode D.state n.redo.value n.memory n.is_down n.pending n.cutting };
 }
 
 /// A disk whose node wasn't started, and why.
@@ -88,7 +96,8 @@ impl<D: Disk> Node<D> {
             (λ failed. failed.cause ≡ causes.Fault
             → Rose (D.faults redo.disk) (D.faults failed.disk)) }
         ensures damaged { (at : ℕ) → IfErr result
-            (λ failed. failed.cause ≡ causes.Damaged at → IsFirstBadBody redo.bodies at) }
+            (λ failed. failed.cause ≡ causes.Damaged at
+            → IsFirstBadBody redo.start redo.bodies at) }
         ensures stands_err { IfErr result
             (λ failed. (D.state failed.disk).honest
             → StandsFor (D.state failed.disk) redo.node redo.nodes redo.bodies) }
@@ -145,6 +154,7 @@ impl<D: Disk> Node<D> {
                 line: Vec::new(alloc),
                 is_down: false,
                 pending: None,
+                cutting: false,
             }),
             Err(cause) => Err(StartFailed {
                 disk: Box::into_inner(redo).close(),
@@ -162,17 +172,25 @@ impl<D: Disk> Node<D> {
     /// closed gate, synced, unless the disk failed. `Down` exactly where the node was down, and
     /// `NoMemory` where there was no memory: nothing has changed. A Decide takes no memory. What is
     /// replied fits the request.
+    ///
+    /// A vote or an execution shortens the log first where its tail has 1,048,576 bytes or more, and
+    /// where its number allows it; the stops are at the record behind that.
     pub fn handle(&mut self, alloc: Global, request: &Request, stop: Option<StopAt>) -> NodeReply
         requires sound { IsSoundRequest request.now }
         ensures answers { Answers D.state D.faults self.old request.now stop result self.new }
         ensures fits { Fits request.now result }
         ensures decides { IsDecide request.now → result ≢ NodeReply.NoMemory }
 
+        // The tail stays short where the log may be shortened.
+        ensures tail { MayShorten request.now → self.old.number ≢ 2 ^ 63 → (r : Record)
+            → (response_to self.old request.now).added ≡ Some r → IsDone result
+            → self.new.tail < 2 ^ 20 + 5 + length (record_bytes r) }
+
         // A crash at any moment of the call leaves the records from before it, with the answer's
-        // one record or without.
+        // one record or without, of which the first may be shortened.
         ensures moments { self.old.down ≡ false → (D.state self.old.disk).honest
             → LeavesOnly (D.state self.old.disk) (D.state self.new.disk)
-            (IsWithOrWithout self.old.node self.old.nodes self.old.records
+            (IsUpToWithOrWithout self.old.node self.old.nodes self.old.records
             (response_to self.old request.now).added) }
         ensures goes_on { NodeKeepsDisk D.state D.faults self.old self.new }
     {
@@ -190,9 +208,10 @@ impl<D: Disk> Node<D> {
             stop,
         ) {
             Served::Replied { reply } => reply,
-            Served::Stopped { left } => {
+            Served::Stopped { left, cutting } => {
                 self.is_down = true;
                 self.pending = Some(left);
+                self.cutting = cutting;
                 NodeReply::Stopped
             }
         }
@@ -204,9 +223,11 @@ impl<D: Disk> Node<D> {
         ensures records { self.new.records ≡ self.old.records }
         ensures up { self.old.down ≡ false → self.new.pending ≡ None }
         ensures same { self.old.down ≡ true → self.new ≡ self.old }
+        ensures cut { self.new.cut ≡ self.old.cut }
+        ensures whole { self.old.down ≡ false → self.new.cutting ≡ false }
         ensures stands { self.old.down ≡ false
             → StandsForRecords (D.state self.new.disk) self.new.node self.new.nodes
-            self.new.records }
+            (listed self.new.cut self.new.records) }
         ensures disk { self.new.disk ≡ self.old.disk }
         ensures node { self.new.node ≡ self.old.node }
         ensures nodes { self.new.nodes ≡ self.old.nodes }
@@ -215,7 +236,8 @@ impl<D: Disk> Node<D> {
     }
 
     /// Starts the node again that is down, with its records, and with the record of the request
-    /// inside which it stopped where the disk has it: which is told. It holds again what these
+    /// inside which it stopped where the disk has it: which is told. Where the disk failed while
+    /// the log was shortened it has not. It holds again what these
     /// hold, shared ranges too. It writes nothing.
     ///
     /// After an error it is still down, and may be restarted again. `Fault` comes only where the
@@ -228,18 +250,23 @@ impl<D: Disk> Node<D> {
         ensures up { OnOk result (self.new.down ≡ false) }
         ensures records { IfOk result
             (RestartLeaves self.old.records self.old.pending self.new.records) }
+        ensures whole { self.old.cutting ≡ true → IfOk result (λ there. there ≡ false) }
+        ensures uncut { self.old.cutting ≡ false → OnOk result (self.new.cut ≡ self.old.cut) }
         ensures stands { OnOk result
             (StandsForRecords (D.state self.new.disk) self.new.node self.new.nodes
-            self.new.records) }
+            (listed self.new.cut self.new.records)) }
         ensures down { OnErr result (self.new.down ≡ true) }
         ensures before { OnErr result (self.new.records ≡ self.old.records) }
         ensures pending { OnErr result (self.new.pending ≡ self.old.pending) }
+        ensures cut { OnErr result (self.new.cut ≡ self.old.cut) }
+        ensures cutting { OnErr result (self.new.cutting ≡ self.old.cutting) }
 
         // A crash at any moment of the call leaves the records, with the one that may have been
         // there or without.
         ensures moments { (D.state self.old.disk).honest
             → LeavesOnly (D.state self.old.disk) (D.state self.new.disk)
-            (IsWithOrWithout self.old.node self.old.nodes self.old.records self.old.pending) }
+            (IsUpToWithOrWithout self.old.node self.old.nodes self.old.records
+            self.old.pending) }
 
         // Nothing was written.
         ensures unwritten { (D.state self.old.disk).honest
@@ -247,24 +274,34 @@ impl<D: Disk> Node<D> {
         ensures images { (D.state self.old.disk).honest
             → NoneNew (D.state self.old.disk) (D.state self.new.disk) }
 
-        // What each image stood for before the call it stands for after it, and the records that
-        // come back are those.
+        // The list that each image stood for before the call it stands for after it, and the node
+        // goes on with that list.
         ensures keeps { (records : List Record)
             → StandsForRecords (D.state self.old.disk) self.old.node self.old.nodes records
             → StandsForRecords (D.state self.new.disk) self.old.node self.old.nodes records }
         ensures found { (D.state self.old.disk).honest → (records : List Record)
             → StandsForRecords (D.state self.old.disk) self.old.node self.old.nodes records
-            → OnOk result (bodies_of self.new.records ≡ bodies_of records) }
+            → OnOk result (bodies_of (listed self.new.cut self.new.records)
+            ≡ bodies_of records) }
         ensures cause { IfErr result
-            (FailsRestart D.state D.faults self.old.disk self.new.disk self.old.records
-            self.old.pending) }
+            (FailsRestart D.state D.faults self.old.disk self.new.disk
+            (listed self.old.cut self.old.records)
+            (left_behind_list self.old.cutting self.old.pending)) }
         ensures goes_on { NodeKeepsDisk D.state D.faults self.old self.new }
     {
         one_list();
-        match back(alloc, &mut self.redo, &mut self.memory, &self.pending) {
+        let cutting = self.cutting;
+        match back(
+            alloc,
+            &mut self.redo,
+            &mut self.memory,
+            &self.pending,
+            cutting,
+        ) {
             Ok(there) => {
                 self.is_down = false;
                 self.pending = None;
+                self.cutting = false;
                 Ok(there)
             }
             Err(error) => Err(error),
@@ -284,11 +321,13 @@ impl<D: Disk> Node<D> {
     /// Whether it is down. It tells what the disk stands for.
     pub fn is_down(&self) -> bool
         ensures down { result ≡ self.now.down }
+        ensures within { self.now.cut ≤ length self.now.records }
+        ensures whole { result ≡ false → self.now.cutting ≡ false }
         ensures up { result ≡ false
             → StandsForRecords (D.state self.now.disk) self.now.node self.now.nodes
-            self.now.records }
+            (listed self.now.cut self.now.records) }
         ensures stands { (D.state self.now.disk).honest
-            → StandsWithOrWithout (D.state self.now.disk) self.now.node self.now.nodes
+            → StandsUpToWithOrWithout (D.state self.now.disk) self.now.node self.now.nodes
             self.now.records self.now.pending }
     {
         self.is_down
@@ -298,9 +337,10 @@ impl<D: Disk> Node<D> {
     pub fn close(self) -> D
         ensures disk { result ≡ self.disk }
         ensures up { self.down ≡ false
-            → StandsForRecords (D.state result) self.node self.nodes self.records }
+            → StandsUpToAll (D.state result) self.node self.nodes self.records }
         ensures stands { (D.state result).honest
-            → StandsWithOrWithout (D.state result) self.node self.nodes self.records self.pending }
+            → StandsUpToWithOrWithout (D.state result) self.node self.nodes self.records
+            self.pending }
     {
         Box::into_inner(self.redo).close()
     }

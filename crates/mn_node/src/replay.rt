@@ -198,6 +198,7 @@ pub fn memory_of(
     ensures memory { IfOk result IsMemory }
     ensures room { IfOk result HasDecisionRoom }
     ensures records { IfOk result (λ memory. memory.records.items ≡ records.items) }
+    ensures cut { IfOk result (λ memory. memory.cut ≡ 0) }
     ensures node { IfOk result (λ memory. memory.node ≡ node) }
     ensures nodes { IfOk result (λ memory. memory.nodes ≡ nodes) }
 {
@@ -208,6 +209,7 @@ pub fn memory_of(
         node,
         nodes,
         records,
+        cut: 0,
         space: made.space,
         locks: made.locks,
         forced: made.forced,
@@ -224,6 +226,7 @@ impl Memory {
         ensures memory { OnOk result (IsMemory self.new) }
         ensures room { OnOk result (HasDecisionRoom self.new) }
         ensures records { self.new.records.items ≡ self.old.records.items }
+        ensures cut { self.new.cut ≡ self.old.cut }
         ensures node { self.new.node ≡ self.old.node }
         ensures nodes { self.new.nodes ≡ self.old.nodes }
     {

@@ -8,8 +8,9 @@ ghost use Rattle.mn_mini.specs.Sound.{IsDecide, IsSoundRequest};
 ghost use Rattle.mn_mini.specs.Node.{clash_of, held_parts};
 ghost use Rattle.mn_mini.specs.declared.record.Record.{Record};
 ghost use Rattle.mn_mini.specs.RecordGrammar.{IsTid, IsPart, AreParticipants};
-ghost use Rattle.mn_node.specs.Node.{IsNodeUp, IsWithOrWithout, CrashLeavesOnly, LogKeepsDisk};
-ghost use Rattle.mn_node.specs.Node.{KeepsNodeNumbers, Handled, node_answer};
+ghost use Rattle.mn_node.specs.Node.{IsNodeUp, IsUpToWithOrWithout, CrashLeavesOnly, LogKeepsDisk};
+ghost use Rattle.mn_node.specs.Node.{KeepsNodeNumbers, KeepsTailShort, Handled, node_answer};
+ghost use Rattle.mn_node.specs.State.{MayShorten};
 ghost use Rattle.mn_node.specs.Part.{alone_of, shared_of};
 ghost use Rattle.mn_node.specs.declared.requests.Served.TheVariants.{Replied};
 
@@ -30,8 +31,9 @@ use std::alloc::Global;
 pub enum Served {
     /// The answer, or want of memory.
     Replied { reply: NodeReply },
-    /// The node stops. The record of the request may stand on the disk or not.
-    Stopped { left: Record },
+    /// The node stops. The record of the request may stand on the disk or not; with `cutting` the
+    /// disk failed before that, while the log was shortened.
+    Stopped { left: Record, cutting: bool },
 }
 
 /// A Force: the vote of the node, which votes no from now on if it hasn't voted.
@@ -48,7 +50,7 @@ pub fn force<D: Disk>(
         (Request.Force tid) stop result redo.new memory.new }
     ensures continues { LogKeepsDisk D.state D.faults redo.old redo.new }
     ensures moments { CrashLeavesOnly D.state redo.old.disk redo.new.disk
-        (IsWithOrWithout redo.old.node redo.old.nodes memory.old.records.items
+        (IsUpToWithOrWithout redo.old.node redo.old.nodes memory.old.records.items
         (node_answer memory.old (Request.Force tid)).added) }
     ensures same { KeepsNodeNumbers memory.old memory.new }
 {
@@ -66,8 +68,10 @@ pub fn force<D: Disk>(
         Logging::NoRoom => Served::Replied {
             reply: NodeReply::NoMemory,
         },
+        Logging::Unshortened => unreachable!(),
         Logging::Stopped => Served::Stopped {
             left: Record::Forced { tid },
+            cutting: false,
         },
         Logging::Logged => {
             memory.add_force(tid);
@@ -94,7 +98,7 @@ pub fn decide<D: Disk>(
     ensures memory { result ≢ Replied NodeReply.NoMemory }
     ensures continues { LogKeepsDisk D.state D.faults redo.old redo.new }
     ensures moments { CrashLeavesOnly D.state redo.old.disk redo.new.disk
-        (IsWithOrWithout redo.old.node redo.old.nodes memory.old.records.items
+        (IsUpToWithOrWithout redo.old.node redo.old.nodes memory.old.records.items
         (node_answer memory.old (Request.Decide tid yes)).added) }
     ensures same { KeepsNodeNumbers memory.old memory.new }
 {
@@ -106,6 +110,7 @@ pub fn decide<D: Disk>(
     if !append_or_stop(redo, &decided_body(tid, yes), stop) {
         return Served::Stopped {
             left: Record::Decided { tid, yes },
+            cutting: false,
         };
     }
     memory.add_decision(tid, yes);
@@ -137,8 +142,10 @@ fn execute<D: Disk>(
         (Request.Exec tid part.now) stop result redo.new memory.new }
     ensures continues { LogKeepsDisk D.state D.faults redo.old redo.new }
     ensures moments { CrashLeavesOnly D.state redo.old.disk redo.new.disk
-        (IsWithOrWithout redo.old.node redo.old.nodes memory.old.records.items
+        (IsUpToWithOrWithout redo.old.node redo.old.nodes memory.old.records.items
         (node_answer memory.old (Request.Exec tid part.now)).added) }
+    ensures tail { KeepsTailShort redo.old (node_answer memory.old
+        (Request.Exec tid part.now)).added result redo.new }
     ensures same { KeepsNodeNumbers memory.old memory.new }
 {
     if !part.writes() {
@@ -152,11 +159,18 @@ fn execute<D: Disk>(
         };
     };
     let executed = Record::Executed { tid, part: copy };
-    match log_record(redo, memory, line, &executed, 0, stop) {
+    match log_record(alloc, redo, memory, line, &executed, 0, stop) {
         Logging::NoRoom => Served::Replied {
             reply: NodeReply::NoMemory,
         },
-        Logging::Stopped => Served::Stopped { left: executed },
+        Logging::Unshortened => Served::Stopped {
+            left: executed,
+            cutting: true,
+        },
+        Logging::Stopped => Served::Stopped {
+            left: executed,
+            cutting: false,
+        },
         Logging::Logged => {
             memory.add_execution(executed, tid, part);
             Served::Replied {
@@ -184,8 +198,10 @@ pub fn exec<D: Disk>(
         (Request.Exec tid part.now) stop result redo.new memory.new }
     ensures continues { LogKeepsDisk D.state D.faults redo.old redo.new }
     ensures moments { CrashLeavesOnly D.state redo.old.disk redo.new.disk
-        (IsWithOrWithout redo.old.node redo.old.nodes memory.old.records.items
+        (IsUpToWithOrWithout redo.old.node redo.old.nodes memory.old.records.items
         (node_answer memory.old (Request.Exec tid part.now)).added) }
+    ensures tail { KeepsTailShort redo.old (node_answer memory.old
+        (Request.Exec tid part.now)).added result redo.new }
     ensures same { KeepsNodeNumbers memory.old memory.new }
 {
     match test_alone(alloc, &memory.space, &memory.locks, tid, part.as_slice()) {
@@ -238,8 +254,10 @@ fn vote_yes<D: Disk>(
         (Request.Prepare tid participants.now part.now) stop result redo.new memory.new }
     ensures continues { LogKeepsDisk D.state D.faults redo.old redo.new }
     ensures moments { CrashLeavesOnly D.state redo.old.disk redo.new.disk
-        (IsWithOrWithout redo.old.node redo.old.nodes memory.old.records.items
+        (IsUpToWithOrWithout redo.old.node redo.old.nodes memory.old.records.items
         (node_answer memory.old (Request.Prepare tid participants.now part.now)).added) }
+    ensures tail { KeepsTailShort redo.old (node_answer memory.old
+        (Request.Prepare tid participants.now part.now)).added result redo.new }
     ensures same { KeepsNodeNumbers memory.old memory.new }
 {
     let Ok(nodes) = participants.try_copy(alloc) else {
@@ -258,11 +276,18 @@ fn vote_yes<D: Disk>(
         participants: nodes,
         part: copy,
     };
-    match log_record(redo, memory, line, &vote, count, stop) {
+    match log_record(alloc, redo, memory, line, &vote, count, stop) {
         Logging::NoRoom => Served::Replied {
             reply: NodeReply::NoMemory,
         },
-        Logging::Stopped => Served::Stopped { left: vote },
+        Logging::Unshortened => Served::Stopped {
+            left: vote,
+            cutting: true,
+        },
+        Logging::Stopped => Served::Stopped {
+            left: vote,
+            cutting: false,
+        },
         Logging::Logged => {
             memory.add_vote(vote, tid, participants, part, ranges);
             Served::Replied {
@@ -292,8 +317,10 @@ pub fn prepare<D: Disk>(
         (Request.Prepare tid participants.now part.now) stop result redo.new memory.new }
     ensures continues { LogKeepsDisk D.state D.faults redo.old redo.new }
     ensures moments { CrashLeavesOnly D.state redo.old.disk redo.new.disk
-        (IsWithOrWithout redo.old.node redo.old.nodes memory.old.records.items
+        (IsUpToWithOrWithout redo.old.node redo.old.nodes memory.old.records.items
         (node_answer memory.old (Request.Prepare tid participants.now part.now)).added) }
+    ensures tail { KeepsTailShort redo.old (node_answer memory.old
+        (Request.Prepare tid participants.now part.now)).added result redo.new }
     ensures same { KeepsNodeNumbers memory.old memory.new }
 {
     if is_in(&memory.forced, tid) {
@@ -398,8 +425,10 @@ pub fn answer<D: Disk>(
     ensures decides { IsDecide request.now → result ≢ Replied NodeReply.NoMemory }
     ensures continues { LogKeepsDisk D.state D.faults redo.old redo.new }
     ensures moments { CrashLeavesOnly D.state redo.old.disk redo.new.disk
-        (IsWithOrWithout redo.old.node redo.old.nodes memory.old.records.items
+        (IsUpToWithOrWithout redo.old.node redo.old.nodes memory.old.records.items
         (node_answer memory.old (request.now)).added) }
+    ensures tail { MayShorten request.now → KeepsTailShort redo.old
+        (node_answer memory.old request.now).added result redo.new }
     ensures same { KeepsNodeNumbers memory.old memory.new }
 {
     match request {

@@ -70,7 +70,7 @@ pub fn records_of<D: Disk>(alloc: Global, redo: &Redo<D>) -> Result<Vec<Record>,
     requires going { redo.now.phase ≢ Closing }
     ensures records { IfOk result (λ records. AreRecords redo.now.bodies records.items) }
     ensures damaged { (at : ℕ) → IsErrOf result (causes.Damaged at)
-        → IsFirstBadBody redo.now.bodies at }
+        → IsFirstBadBody redo.now.start redo.now.bodies at }
     ensures no_fault { IsErrOf result causes.Fault → ⊥ }
 {
     let mut records = Vec::new(alloc);
@@ -147,6 +147,7 @@ pub fn ready<D: Disk>(
     ensures header { OnOk result ((D.state redo.new.disk).honest
         → HasHeader (D.state redo.new.disk)) }
     ensures records { IfOk result (λ memory. memory.records.items ≡ records.items) }
+    ensures cut { IfOk result (λ memory. memory.cut ≡ 0) }
     ensures node { IfOk result (λ memory. memory.node ≡ redo.old.node) }
     ensures nodes { IfOk result (λ memory. memory.nodes ≡ redo.old.nodes) }
     ensures stands { (D.state redo.new.disk).honest

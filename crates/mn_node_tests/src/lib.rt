@@ -2,6 +2,8 @@
 #![tactic(auto)]
 
 #[cfg(test)]
+mod long_logs;
+#[cfg(test)]
 mod nodes;
 #[cfg(test)]
 mod shortening;

@@ -30,7 +30,7 @@ fn empty_log(alloc: Global, fails: &[u64]) -> Result<Redo<MemoryDisk>, Fail>
 }
 
 /// Node 1 of two, on a disk without a byte whose calls in the list fail.
-fn start(alloc: Global, fails: &[u64]) -> Result<Node<MemoryDisk>, Fail> {
+pub fn start(alloc: Global, fails: &[u64]) -> Result<Node<MemoryDisk>, Fail> {
     let redo = empty_log(alloc, fails)?;
     match Node::start(alloc, redo) {
         Ok(node) => Ok(node),
@@ -79,7 +79,7 @@ fn tid(client: u8, serial: u8) -> Tid
 }
 
 /// A part of one item.
-fn part_of(alloc: Global, item: PartItem) -> Result<Part, Fail>
+pub fn part_of(alloc: Global, item: PartItem) -> Result<Part, Fail>
     requires { IsPartItem item }
     ensures { IfOk result IsPart }
 {
@@ -212,7 +212,7 @@ fn says_all(alloc: Global, node: &mut Node<MemoryDisk>, rows: &[Said]) -> Result
 }
 
 /// Whether a restart finds the record of the stopped request; none if the node is up or stays down.
-fn restart(alloc: Global, node: &mut Node<MemoryDisk>) -> Option<bool> {
+pub fn restart(alloc: Global, node: &mut Node<MemoryDisk>) -> Option<bool> {
     if !node.is_down() {
         return None;
     }
@@ -364,7 +364,7 @@ fn a_decision_on_a_disk_that_fails_stops_the_node(rt: HostRuntime) -> Result<(),
 const EXEC: Ask = Exec(2, 1, Write(20_480, 0x62));
 
 /// How many records a log has that is opened on what a crash leaves.
-fn left_by(alloc: Global, disk: MemoryDisk, choice: u64) -> Result<Option<u32>, Fail> {
+pub fn left_by(alloc: Global, disk: MemoryDisk, choice: u64) -> Result<Option<u32>, Fail> {
     match Redo::open(alloc, disk.crash(alloc, choice)?, NodeNo(1), 2) {
         Ok(redo) => Ok(Some(redo.count())),
         Err(_failed) => Ok(None),

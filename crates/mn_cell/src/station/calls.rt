@@ -8,9 +8,9 @@ ghost use Rattle.mn_actors.specs.declared.actor.Actor.TheVariants.{Node as AtNod
 ghost use Rattle.mn_actors.specs.Lists.{held};
 ghost use Rattle.mn_actors.specs.Sight.{board_of, id_of, view_of};
 ghost use Rattle.mn_io.specs.DiskModel.{LeavesOnly};
-ghost use Rattle.mn_node.specs.Node.{IsWithOrWithout};
+ghost use Rattle.mn_node.specs.Node.{IsUpToWithOrWithout, listed};
 ghost use Rattle.mn_node.specs.Restart.{FailsRestart};
-ghost use Rattle.mn_node.specs.State.{response_to};
+ghost use Rattle.mn_node.specs.State.{left_behind_list, response_to};
 ghost use Rattle.mn_runs.specs.declared.entry.What.TheVariants.{Stopped, Restarted};
 ghost use Rattle.mn_runs.specs.declared.entry.Entry.{Entry};
 ghost use Rattle.mn_law.specs.Run.{IsLegalBy};
@@ -242,7 +242,7 @@ impl<N: Named, D: Disk> Station<N, D> {
         // answer's one record or without.
         ensures moments { self.old.node.down ≡ false → (D.state self.old.node.disk).honest
             → LeavesOnly (D.state self.old.node.disk) (D.state self.new.node.disk)
-            (IsWithOrWithout self.old.node.node self.old.node.nodes self.old.node.records
+            (IsUpToWithOrWithout self.old.node.node self.old.node.nodes self.old.node.records
             (response_to self.old.node request).added) }
     {
         let client = list.client();
@@ -348,7 +348,8 @@ impl<N: Named, D: Disk> Station<N, D> {
             × (list.new ≡ list.old))) }
         ensures cause { IfErr result
             (FailsRestart D.state D.faults self.old.node.disk self.new.node.disk
-            self.old.node.records self.old.node.pending) }
+            (listed self.old.node.cut self.old.node.records)
+            (left_behind_list self.old.node.cutting self.old.node.pending)) }
         ensures fault { IfErr result (λ e. e ≡ RestartError.Fault
             → RoseBy (unasked (entries_of self.new.list) + 1) (N.faults self.old.number.0)
             (D.faults self.new.node.disk)) }
@@ -358,7 +359,7 @@ impl<N: Named, D: Disk> Station<N, D> {
         // been there or without.
         ensures moments { (D.state self.old.node.disk).honest
             → LeavesOnly (D.state self.old.node.disk) (D.state self.new.node.disk)
-            (IsWithOrWithout self.old.node.node self.old.node.nodes self.old.node.records
+            (IsUpToWithOrWithout self.old.node.node self.old.node.nodes self.old.node.records
             self.old.node.pending) }
         ensures failed { OnErr result
             (IsAsBefore self.old self.new × (self.old.node.down ≡ true) × (pass.new ≡ pass.old)

@@ -4,7 +4,7 @@ use Rattle.mn_mini.specs.declared.record.Record.TheVariants.{Forced}
 use Rattle.mn_mini.specs.declared.request.Request.TheVariants as Ask
 use Rattle.mn_mini.specs.Node.{has_voted, has_forced, Response}
 use Rattle.mn_page.specs.Base.{base_of}
-use Rattle.mn_node.specs.Node.{IsWithOrWithout, CrashLeavesOnly, added_to, node_answer}
+use Rattle.mn_node.specs.Node.{IsUpToWithOrWithout, CrashLeavesOnly, added_to, node_answer}
 use Rattle.mn_node.proofs.Steps.{up_logged, force_answer, unasked}
 use Rattle.mn_node.proofs.requests.force.Goals as goal
 
@@ -39,7 +39,7 @@ returns-in-Logged-clause-handled g c =
     let voted : has_voted (reverse m.records.items) c.args.tid ≡ false = ap (λ (l : List Record). has_voted (reverse l) c.args.tid) (sym c.deref.ensures.value) ∙ sym c.if-voted.ensures in
     let forced : has_forced (reverse m.records.items) c.args.tid ≡ false = sym (c.requires.up.memory.forced_are c.args.tid) ∙ search rules in
     let told = force_answer (base_of m.nodes m.node) (reverse m.records.items) c.args.tid voted forced in (
-      up_logged g.D.Disk.state c.log_bytes.new.redo c.log_bytes.new.memory c.add_force.new.self (Forced c.args.tid) 0 leaves.0 c.add_force.ensures.memory c.add_force.ensures.room c.add_force.ensures.records (omega (arith, c.add_force.ensures.held)),
+      up_logged g.D.Disk.state c.log_bytes.new.redo c.log_bytes.new.memory c.add_force.new.self (Forced c.args.tid) 0 leaves.0 c.add_force.ensures.memory c.add_force.ensures.room c.add_force.ensures.records c.add_force.ensures.cut (omega (arith, c.add_force.ensures.held)),
       ap (λ (a : Response). a.reply) told,
       c.add_force.ensures.records ∙ ap (λ (l : List Record). l ++ Forced c.args.tid ∷ []) leaves.1 ∙ sym (ap (λ (a : Response). added_to m.records.items a.added) told),
       unasked c.args.stop _ leaves.3,
@@ -52,7 +52,7 @@ returns-in-NoRoom-clause-moments g c =
     let voted : has_voted (reverse m.records.items) c.args.tid ≡ false = ap (λ (l : List Record). has_voted (reverse l) c.args.tid) (sym c.deref.ensures.value) ∙ sym c.if-voted.ensures in
     let forced : has_forced (reverse m.records.items) c.args.tid ≡ false = sym (c.requires.up.memory.forced_are c.args.tid) ∙ search rules in
     let one : (node_answer m (Ask.Force c.args.tid)).added ≡ Some (Forced c.args.tid) = ap (λ (a : Response). a.added) (force_answer (base_of m.nodes m.node) (reverse m.records.items) c.args.tid voted forced) in
-    subst (λ (o : Option Record). CrashLeavesOnly g.D.Disk.state old.disk c.log_bytes.new.redo.disk (IsWithOrWithout old.node old.nodes m.records.items o)) (sym one) (c.log_bytes.ensures.moments (Forced c.args.tid) c.forced_body.ensures)
+    subst (λ (o : Option Record). CrashLeavesOnly g.D.Disk.state old.disk c.log_bytes.new.redo.disk (IsUpToWithOrWithout old.node old.nodes m.records.items o)) (sym one) (c.log_bytes.ensures.moments (Forced c.args.tid) c.forced_body.ensures)
 
 pub returns-in-Stopped-clause-moments : goal.returns-in-Stopped-clause-moments
 returns-in-Stopped-clause-moments g c =
@@ -61,7 +61,7 @@ returns-in-Stopped-clause-moments g c =
     let voted : has_voted (reverse m.records.items) c.args.tid ≡ false = ap (λ (l : List Record). has_voted (reverse l) c.args.tid) (sym c.deref.ensures.value) ∙ sym c.if-voted.ensures in
     let forced : has_forced (reverse m.records.items) c.args.tid ≡ false = sym (c.requires.up.memory.forced_are c.args.tid) ∙ search rules in
     let one : (node_answer m (Ask.Force c.args.tid)).added ≡ Some (Forced c.args.tid) = ap (λ (a : Response). a.added) (force_answer (base_of m.nodes m.node) (reverse m.records.items) c.args.tid voted forced) in
-    subst (λ (o : Option Record). CrashLeavesOnly g.D.Disk.state old.disk c.log_bytes.new.redo.disk (IsWithOrWithout old.node old.nodes m.records.items o)) (sym one) (c.log_bytes.ensures.moments (Forced c.args.tid) c.forced_body.ensures)
+    subst (λ (o : Option Record). CrashLeavesOnly g.D.Disk.state old.disk c.log_bytes.new.redo.disk (IsUpToWithOrWithout old.node old.nodes m.records.items o)) (sym one) (c.log_bytes.ensures.moments (Forced c.args.tid) c.forced_body.ensures)
 
 pub returns-in-Logged-clause-moments : goal.returns-in-Logged-clause-moments
 returns-in-Logged-clause-moments g c =
@@ -70,4 +70,4 @@ returns-in-Logged-clause-moments g c =
     let voted : has_voted (reverse m.records.items) c.args.tid ≡ false = ap (λ (l : List Record). has_voted (reverse l) c.args.tid) (sym c.deref.ensures.value) ∙ sym c.if-voted.ensures in
     let forced : has_forced (reverse m.records.items) c.args.tid ≡ false = sym (c.requires.up.memory.forced_are c.args.tid) ∙ search rules in
     let one : (node_answer m (Ask.Force c.args.tid)).added ≡ Some (Forced c.args.tid) = ap (λ (a : Response). a.added) (force_answer (base_of m.nodes m.node) (reverse m.records.items) c.args.tid voted forced) in
-    subst (λ (o : Option Record). CrashLeavesOnly g.D.Disk.state old.disk c.log_bytes.new.redo.disk (IsWithOrWithout old.node old.nodes m.records.items o)) (sym one) (c.log_bytes.ensures.moments (Forced c.args.tid) c.forced_body.ensures)
+    subst (λ (o : Option Record). CrashLeavesOnly g.D.Disk.state old.disk c.log_bytes.new.redo.disk (IsUpToWithOrWithout old.node old.nodes m.records.items o)) (sym one) (c.log_bytes.ensures.moments (Forced c.args.tid) c.forced_body.ensures)

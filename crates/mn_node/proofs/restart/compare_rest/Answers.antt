@@ -7,30 +7,33 @@ use Rattle.mn_node.proofs.restart.compare_rest.Goals as goal
 
 pub returns-in_default-clause-differs : goal.returns-in_default-clause-differs
 returns-in_default-clause-differs c =
-    let bodies = c.args.log.now in
+    let log = c.args.log.now in
+    let bodies = log.bodies in
     let records = c.args.records.now in
     let none : c.args.pending.now ≡ None = search rules in
-    subst (λ (p : Option Record). TellsOtherRecords bodies records p c.differs.result) (sym none)
-    (differs_behind bodies records None c.differs.result c.requires.front c.requires.more (not_alone bodies records c.requires.more, λ e. e) (λ r e. absurd cc) c.differs.ensures)
+    subst (λ (p : Option Record). TellsOtherRecords log records p c.differs.result) (sym none)
+    (differs_behind log records None c.differs.result c.requires.front c.requires.more (not_alone bodies records c.requires.more, λ e. e) (λ r e. absurd cc) c.differs.ensures)
 
 pub spells-requires-clause-sound : goal.spells-requires-clause-sound
 spells-requires-clause-sound c = pending_sound c.args.records.now c.args.pending.now c.in-Some.left c.in-Some.is c.requires.sound
 
 pub returns-then-not-branch-clause-differs : goal.returns-then-not-branch-clause-differs
 returns-then-not-branch-clause-differs c =
-    let bodies = c.args.log.now in
+    let log = c.args.log.now in
+    let bodies = log.bodies in
     let records = c.args.records.now in
     let left = c.in-Some.left in
     let other : get_or bodies (length records) [] ≢ record_bytes left = c.in_ok-spells.ensures.no c.if-not-branch.true in
-    subst (λ (p : Option Record). TellsOtherRecords bodies records p c.differs-then-not-branch.result) (sym c.in-Some.is)
-    (differs_behind bodies records (Some left) c.differs-then-not-branch.result c.requires.front c.requires.more
+    subst (λ (p : Option Record). TellsOtherRecords log records p c.differs-then-not-branch.result) (sym c.in-Some.is)
+    (differs_behind log records (Some left) c.differs-then-not-branch.result c.requires.front c.requires.more
     (not_alone bodies records c.requires.more, not_left bodies records left other)
     (λ r e. subst (λ (q : Record). get_or bodies (length records) [] ≢ record_bytes q) (unsome left r e) other) c.differs-then-not-branch.ensures)
 
 pub returns-then-total-count-clause-differs : goal.returns-then-total-count-clause-differs
 returns-then-total-count-clause-differs c =
-    let bodies = c.args.log.now in
+    let log = c.args.log.now in
+    let bodies = log.bodies in
     let records = c.args.records.now in
     let left = c.in-Some.left in
-    subst (λ (p : Option Record). TellsOtherRecords bodies records p c.differs-then-total-count.result) (sym c.in-Some.is)
-    (differs_past bodies records left c.differs-then-total-count.result c.requires.front (omega (arith, c.if-total-count.true, c.count-total.ensures)) (c.in_ok-spells.ensures.yes c.if-not-branch.false) c.differs-then-total-count.ensures)
+    subst (λ (p : Option Record). TellsOtherRecords log records p c.differs-then-total-count.result) (sym c.in-Some.is)
+    (differs_past log records left c.differs-then-total-count.result c.requires.front (omega (arith, c.if-total-count.true, c.count-total.ensures)) (c.in_ok-spells.ensures.yes c.if-not-branch.false) c.differs-then-total-count.ensures)

@@ -3,4 +3,4 @@ use Rattle.mn_node.proofs.restart.first_difference.Given as goal
 
 -- the log has the first records
 abbrev pub invariant-loop-number : goal.invariant-loop-number
-invariant-loop-number l = BeginAlike l.number l.log l.records
+invariant-loop-number l = BeginAlike l.number l.log.bodies l.records

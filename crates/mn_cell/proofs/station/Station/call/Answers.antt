@@ -1,4 +1,4 @@
-use Rattle.std.proofs.Common.{◌≡◌, ℕ, List, Option, ◌∷◌, Some, inl, inr, refl, sym, ap, ◌∙◌, subst}
+use Rattle.std.proofs.Common.{rules, ◌≡◌, ℕ, Bool, false, List, Option, ◌∷◌, Some, inl, inr, refl, sym, ap, ◌∙◌, subst}
 use Rattle.mn_base.specs.declared.ids.ClientNo.{ClientNo}
 use Rattle.mn_base.specs.declared.ids.NodeNo.{NodeNo}
 use Rattle.mn_base.specs.declared.ids.Tid.{Tid}
@@ -15,7 +15,10 @@ use Rattle.mn_cell.specs.Calls.{HasLengths, IsLarge, entry_at, what_said}
 use Rattle.mn_cell.specs.Promises.{HasRoomForStep, IsOwed, IsOwedAt, IsOwing, decided_by, decided_in}
 use Rattle.mn_cell.specs.Station.{HasMadeEntries, list_by, list_in}
 use Rattle.mn_cell.proofs.Fills.{fit_lengths}
-use Rattle.mn_cell.proofs.Made.{base_is, keeps_stop, made_called, made_unchanged}
+use Rattle.mn_io.specs.DiskModel.{LeavesOnly}
+use Rattle.mn_node.specs.Node.{IsUpToWithOrWithout}
+use Rattle.mn_node.specs.State.{response_to}
+use Rattle.mn_cell.proofs.Made.{base_is, keeps_stop, made_called, made_unchanged, up_rests}
 use Rattle.mn_cell.proofs.OneLog.{owed_here}
 use Rattle.mn_cell.proofs.Owed.{newest_entry, owes_what_is_owed, owing_stays}
 use Rattle.mn_cell.proofs.Passed.{held_in, list_of_pass}
@@ -114,3 +117,14 @@ returns-in_default-clause-owed g c = λ owed room _.
     let owes = owed_here n client own list one decided here in
     let owes' = subst (λ (k : ClientNo). IsOwed (Some k) decided (entries_of own)) c.client-client.ensures.client owes in
     c.in_default.ensures.owed (owes_what_is_owed own c.self.inside.owing.size c.self.inside.owing.owed c.self.invariant.1 c.args.list.now.client decided owes') room
+
+pub returns-in_default-clause-moments : goal.returns-in_default-clause-moments
+returns-in_default-clause-moments g c up honest =
+    let state = g.D.Disk.state in
+    let n = c.self.inside.node in
+    let was : c.args.self.now.node ≡ n = search rules in
+    let is : c.compare.new.self.node ≡ n = search rules in
+    let down : c.is_down-down.result ≡ false = search rules in
+    let rests = up_rests state n (response_to n c.args.request).added c.is_down-down.ensures.within (c.is_down-down.ensures.up down) (g.D.Disk.is_disk n.disk) (subst (λ o. (state o.disk).honest) was honest) in
+    let after = subst (λ m. LeavesOnly (state n.disk) (state m.disk) (IsUpToWithOrWithout n.node n.nodes n.records (response_to n c.args.request).added)) (sym is) rests in
+    subst (λ o. LeavesOnly (state o.disk) (state c.compare.new.self.node.disk) (IsUpToWithOrWithout o.node o.nodes o.records (response_to o c.args.request).added)) (sym was) after
