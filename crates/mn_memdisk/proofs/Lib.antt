@@ -1,4 +1,5 @@
 pub mod Growth
 pub mod Replay
+pub mod Stays
 pub mod Tears
 pub mod Writing

@@ -1,5 +1,5 @@
 -- What contracts see of a disk in memory.
-use Rattle.std.specs.Prelude.{◌≡◌, ℕ, List}
+use Rattle.std.specs.Prelude.{◌≡◌, ℕ, Bool, true, List, Result, IsErr}
 use Rattle.mn_io.specs.DiskModel.{DiskState}
 use Rattle.mn_io.specs.Faults.{next_count}
 use Rattle.mn_io.specs.Memory.{is_one_of, counted}
@@ -25,3 +25,16 @@ pub record IsCounted (old new : MemoryState) : Type 0 where
   pub calls : new.calls ≡ next_count old.calls
   pub faults : new.faults ≡ counted (is_one_of old.calls old.fails) old.faults
   pub fails : new.fails ≡ old.fails
+
+-- a disk that stops with others: the disk in memory that it is, whether it has stopped, and how many
+-- calls failed
+pub record StopState : Type 0 where
+  pub disk : MemoryState
+  pub is_stopped : Bool
+  pub faults : ℕ
+
+-- the call failed, touched nothing, and the disk stays stopped
+pub record DidNothing {T E : Type 0} (old new : StopState) (result : Result T E) : Type 0 where
+  pub failed : IsErr result
+  pub disk : new.disk ≡ old.disk
+  pub stays : new.is_stopped ≡ true

@@ -9,9 +9,11 @@ mod meet_disk;
 mod memory_disk;
 mod outcome;
 mod overwrite;
+mod stops_after;
 
 pub use meet_disk::{MeetDisk, Meeting};
 pub use memory_disk::MemoryDisk;
+pub use stops_after::{LastCall, StopsAfter};
 
 #[cfg(test)]
 mod tests;

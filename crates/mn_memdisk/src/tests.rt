@@ -1,9 +1,10 @@
 ghost use Rattle.std.specs.Prelude.{◌≡◌, ◌≤◌, length, IfOk};
 ghost use Rattle.mn_memdisk.specs.Memory.{state_of};
 
-use crate::MemoryDisk;
+use crate::{LastCall, MemoryDisk, StopsAfter};
 use mn_io::{Bytes, Calls, Disk, Failed, NoMemory};
 use std::alloc::Global;
+use std::sync::Arc;
 use std::test::Fail;
 
 /// A disk of the bytes `abcdef` with room for four changes of eight bytes, whose calls in the list
@@ -136,5 +137,54 @@ fn a_disk_fails_at_the_calls_of_its_list(rt: HostRuntime) -> Result<(), Fail> {
     assert!(rt; disk.read(3, &mut into) == Ok(3) && into == *b"def\0");
     assert!(rt; disk.sync() == Err(Failed));
     assert!(rt; disk.sync() == Ok(()) && disk.faults() == 2);
+    Ok(())
+}
+
+/// What a crash leaves of two disks that are written and then synced in turn, and that stop inside
+/// the call of a number.
+fn stopped_at(alloc: Global, at: u64, choice: u64) -> Result<(MemoryDisk, MemoryDisk), Fail> {
+    let last = LastCall::new(alloc, at)?;
+    let mut first = StopsAfter::new(make_disk(alloc, &[])?, Arc::try_clone(&last)?);
+    let mut second = StopsAfter::new(make_disk(alloc, &[])?, last);
+    let _ = first.write_at(0, b"XX");
+    let _ = second.write_at(0, b"YY");
+    let _ = first.sync();
+    let _ = second.sync();
+    Ok((
+        first.into_disk().crash(alloc, choice)?,
+        second.into_disk().crash(alloc, choice)?,
+    ))
+}
+
+#[test]
+fn a_stop_leaves_what_was_synced_and_any_of_the_rest(rt: HostRuntime) -> Result<(), Fail> {
+    for (at, choice, first, second) in [
+        (0, 1, b"XXcdef".as_slice(), b"abcdef".as_slice()),
+        (0, 2, b"Xbcdef".as_slice(), b"abcdef".as_slice()),
+        (1, 0, b"abcdef".as_slice(), b"abcdef".as_slice()),
+        (1, 1, b"XXcdef".as_slice(), b"YYcdef".as_slice()),
+        (2, 0, b"abcdef".as_slice(), b"abcdef".as_slice()),
+        (3, 0, b"XXcdef".as_slice(), b"abcdef".as_slice()),
+        (4, 0, b"XXcdef".as_slice(), b"YYcdef".as_slice()),
+    ] {
+        let left = stopped_at(rt.alloc(), at, choice)?;
+        assert!(rt;
+            left.0.content() == first && left.1.content() == second,
+            "{at} {choice}"
+        );
+    }
+    Ok(())
+}
+
+#[test]
+fn a_disk_that_has_stopped_fails_at_each_call(rt: HostRuntime) -> Result<(), Fail> {
+    let last = LastCall::new(rt.alloc(), 1)?;
+    let mut disk = StopsAfter::new(make_disk(rt.alloc(), &[])?, Arc::try_clone(&last)?);
+    let mut into = [0; 4];
+    assert!(rt; disk.length() == Ok(6) && last.calls() == 1);
+    assert!(rt; disk.cut(2) == Err(Failed) && last.calls() == 2);
+    assert!(rt; disk.length().is_err() && disk.read(0, &mut into).is_err());
+    assert!(rt; disk.sync() == Err(Failed) && disk.faults() == 4);
+    assert!(rt; disk.into_disk().content() == b"ab".as_slice());
     Ok(())
 }

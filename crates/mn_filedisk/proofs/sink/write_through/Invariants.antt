@@ -1,0 +1,6 @@
+-- An interrupted write adds nothing.
+use Rattle.std.specs.Io.KnownBytes.{Keeps}
+use Rattle.mn_filedisk.proofs.sink.write_through.Given as goal
+
+abbrev pub invariant-loop : goal.invariant-loop
+invariant-loop g l = Keeps (g.W.Write.contents l.initial.writer) (g.W.Write.contents l.writer)

@@ -1,0 +1,3 @@
+mod fakes;
+mod files;
+mod streams;
