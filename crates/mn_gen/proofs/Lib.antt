@@ -3,3 +3,4 @@ pub mod Doing
 pub mod Worked
 pub mod Grammar
 pub mod Loops
+pub mod Adding

@@ -5,6 +5,9 @@ mod accounts;
 mod clients;
 mod draws;
 mod script;
+mod summary;
+mod sums;
 mod work;
 
 pub use script::gen_script;
+pub use summary::summary_of;

@@ -21,3 +21,4 @@ pub use lists::ClientLists;
 pub use merging::merge;
 pub use points::{Step, asked_in, may_stop, meet, none_met, voted_id};
 pub use shown::{KnownCatalog, Read, shows};
+pub use versions::versions_of;

@@ -50,11 +50,19 @@ version_line v =
     ++ (spaced (state_text v.frozen)
     ++ (spaced_number v.count ++ spaced (encode_lower v.digest))))))
 
+-- the versions of a store, each on its line, and the end
+abbrev pub versions_text : List VersionLine → Text
+versions_text versions = flat_map version_line versions ++ line (codes "end")
+
 abbrev pub report_text : Report → Text
 report_text r =
     flat_map answer_line r.answers
     ++ (history_text r.history ++ (flat_map doubt_line r.doubts
-    ++ (point_lines 1 r.points ++ (flat_map version_line r.versions ++ line (codes "end")))))
+    ++ (point_lines 1 r.points ++ versions_text r.versions)))
+
+-- what is told of disks that hold a store with these versions
+abbrev pub check_text : List VersionLine → Text
+check_text versions = line (codes "check yes") ++ versions_text versions
 
 -- each answer can be told
 abbrev pub CanReport : Report → Type 0

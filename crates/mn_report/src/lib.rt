@@ -11,5 +11,5 @@ mod spelling;
 
 pub use lines::{AnswerLine, DoubtLine, LineAnswer, Ranked, VersionLine};
 pub use lists::{AnswerLines, Flags, Outcomes, Ranks, VersionLines};
-pub use report::{Report, write_report};
+pub use report::{Report, write_check, write_report};
 pub use spelling::{push_number, push_spaced_number, push_spelled, push_word};
