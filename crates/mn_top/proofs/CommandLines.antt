@@ -1,10 +1,10 @@
 -- What the words of a command line ask for, by the parts that clap finds in them.
-use Rattle.std.proofs.Common.{MatchOption, ◌≡◌, ◌≢◌, ◌≤◌, ◌<◌, ◌^◌, ◌∙◌, ℕ, List, [], ◌∷◌, ◌++◌, Option, None, Some, option_map, get_or, decimal, false, ◌||◌, arith, sym, refl, ap, ap₂, subst}
+use Rattle.std.proofs.Common.{MatchOption, ◌≡◌, ◌≢◌, ◌≤◌, ◌<◌, ◌^◌, ◌∙◌, ℕ, List, [], ◌∷◌, ◌++◌, Option, None, Some, option_map, get_or, codes, decimal, false, ◌||◌, arith, sym, refl, ap, ap₂, subst}
 use Rattle.std.specs.List.{list_any}
 use Rattle.std.proofs.lemmas.Bool.{ne_eqb}
 use Rattle.std.proofs.lemmas.List.Folds.{list_any-append}
 use Rattle.mn_mini.proofs.Fits.{unsome}
-use Rattle.mn_top.specs.CommandLine.{AllPlain, HasFolder, HasNumber, MayBeNumber, Split, is_option}
+use Rattle.mn_top.specs.CommandLine.{AllPlain, HasFolder, HasNumber, ReadsAs, Split, is_option}
 use Rattle.mn_top.specs.Words.{Asked, Asks, MayBeFolder, MayHaveFolder, MayHaveNumber, Text, command_word, folder_words, number_words}
 use Rattle.mn_top.specs.declared.words.Command.{Command}
 use Rattle.mn_top.specs.declared.words.Command.TheVariants.{Replay, Run, Gen, Check}
@@ -95,15 +95,19 @@ no_parts words texts same none asked asks = none asked.command (decimal asked.no
 
 -- what parts ask for
 
-number_of : (c : Command) (k : Option Text) → HasNumber c k → MayBeNumber k → (number : Option ℕ) × MayHaveNumber c number × (folder_words k ≡ number_words number)
-number_of Gen None h may = absurd h
-number_of Gen (Some w) h (n, small, e) = (Some n, small, ap (λ (x : Text). x ∷ []) e)
-number_of Replay None h may = (None, tt, refl)
-number_of Replay (Some w) h may = absurd h
-number_of Run None h may = (None, tt, refl)
-number_of Run (Some w) h may = absurd h
-number_of Check None h may = (None, tt, refl)
-number_of Check (Some w) h may = absurd h
+number_of : (c : Command) (k : Option Text) (n : Option ℕ) → HasNumber c k → ReadsAs k n → MayHaveNumber c n × (folder_words k ≡ number_words n)
+number_of Gen None n h reads = absurd h
+number_of Gen (Some w) None h reads = absurd reads
+number_of Gen (Some w) (Some n) h reads = (reads.0, ap (λ (x : Text). x ∷ []) reads.1)
+number_of Replay None None h reads = (tt, refl)
+number_of Replay None (Some n) h reads = absurd reads
+number_of Replay (Some w) n h reads = absurd h
+number_of Run None None h reads = (tt, refl)
+number_of Run None (Some n) h reads = absurd reads
+number_of Run (Some w) n h reads = absurd h
+number_of Check None None h reads = (tt, refl)
+number_of Check None (Some n) h reads = absurd reads
+number_of Check (Some w) n h reads = absurd h
 
 folder_of : (c : Command) (f : Option Text) → HasFolder c f → MayBeFolder f → MayHaveFolder c f
 folder_of Replay f h may = may
@@ -112,20 +116,40 @@ folder_of Gen f h may = may
 folder_of Check None h may = absurd h
 folder_of Check (Some f) h may = may
 
-pub parts_ask : (words : List Text) (c : Command) (a : Text) (k f : Option Text) (n : ℕ) → Split words c a k f → a ≡ decimal n → 1 ≤ n → n ≤ 8 → MayBeNumber k → MayBeFolder f
-    → (asked : Asked) × Asks words asked × ((c ≡ asked.command) × (n ≡ asked.nodes) × (f ≡ asked.folder))
-parts_ask words c a k f n split nodes some few may_number may_folder =
-    let number = number_of c k split.1 may_number in (
-      record { command = c; nodes = n; number = number.0; folder = f },
+pub parts_ask : (words : List Text) (c : Command) (a : Text) (k f : Option Text) (n : ℕ) (number : Option ℕ) → Split words c a k f → a ≡ decimal n → 1 ≤ n → n ≤ 8 → ReadsAs k number → MayBeFolder f
+    → (asked : Asked) × Asks words asked × ((c ≡ asked.command) × (n ≡ asked.nodes) × (number ≡ asked.number) × (f ≡ asked.folder))
+parts_ask words c a k f n number split nodes some few reads may_folder =
+    let is = number_of c k number split.1 reads in (
+      record { command = c; nodes = n; number = number; folder = f },
       record {
-        spelled = split.0 ∙ ap₂ (λ (x : Text) (l : List Text). command_word c ∷ x ∷ (l ++ folder_words f)) nodes number.2;
+        spelled = split.0 ∙ ap₂ (λ (x : Text) (l : List Text). command_word c ∷ x ∷ (l ++ folder_words f)) nodes is.1;
         some = some;
         few = few;
-        number = number.1;
+        number = is.0;
         folder = folder_of c f split.2 may_folder;
       },
-      (refl, refl, refl),
+      (refl, refl, refl, refl),
     )
+
+-- where the number is none, they ask for nothing
+
+no_made : (words : List Text) (a w b : Text) (more rest : List Text) → words ≡ codes "gen" ∷ a ∷ w ∷ more → (c : Command) (n : Option ℕ) → words ≡ command_word c ∷ b ∷ (number_words n ++ rest) → MayHaveNumber c n
+    → ((number : Option ℕ) → ReadsAs (Some w) number → ⊥) → ⊥
+no_made words a w b more rest is Replay n other may none = let e : 103 ≡ 114 = ap (λ (l : List Text). get_or (get_or l 0 []) 0 0) (sym is ∙ other) in absurd (omega (arith, e))
+no_made words a w b more rest is Run n other may none = let e : 103 ≡ 114 = ap (λ (l : List Text). get_or (get_or l 0 []) 0 0) (sym is ∙ other) in absurd (omega (arith, e))
+no_made words a w b more rest is Check n other may none = let e : 103 ≡ 99 = ap (λ (l : List Text). get_or (get_or l 0 []) 0 0) (sym is ∙ other) in absurd (omega (arith, e))
+no_made words a w b more rest is Gen None other may none = may
+no_made words a w b more rest is Gen (Some n) other may none = none (Some n) (may, ap (λ (l : List Text). get_or l 2 []) (sym is ∙ other))
+
+pub no_number : (words : List Text) (c : Command) (a : Text) (k f : Option Text) → Split words c a k f → ((number : Option ℕ) → ReadsAs k number → ⊥) → (asked : Asked) → Asks words asked → ⊥
+no_number words Gen a None f split none asked asks = split.1
+no_number words Gen a (Some w) f split none asked asks = no_made words a w (decimal asked.nodes) (folder_words f) (folder_words asked.folder) split.0 asked.command asked.number asks.spelled asks.number none
+no_number words Replay a None f split none asked asks = none None tt
+no_number words Replay a (Some w) f split none asked asks = split.1
+no_number words Run a None f split none asked asks = none None tt
+no_number words Run a (Some w) f split none asked asks = split.1
+no_number words Check a None f split none asked asks = none None tt
+no_number words Check a (Some w) f split none asked asks = split.1
 
 -- what an answer says where it is nothing, and where it is something
 

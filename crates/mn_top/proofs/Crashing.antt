@@ -1,185 +1,25 @@
 -- Whatever a replay comes to, a crash leaves disks that hold a store.
-use Rattle.std.proofs.Common.{◌≡◌, ◌<◌, ◌≤◌, ◌+◌, ◌++◌, ◌∙◌, ℕ, zero, suc, List, [], ◌∷◌, Bool, true, false, length, reverse, refl, ap, sym, subst, arith, inl, inr, Option, Some, None, if◌then◌else◌, add-one, below_more}
-use Rattle.std.specs.Prelude.{◌⊎◌, slice_get, IsSome}
-use Rattle.std.specs.List.{AllByRecursion}
-use Rattle.std.proofs.lemmas.Bool.{ne_eqb}
-use Rattle.std.proofs.lemmas.List.{reverse-append, reverse-reverse}
-use Rattle.mn_base.specs.History.{store_after}
-use Rattle.mn_base.specs.Store.{Store}
-use Rattle.mn_base.specs.declared.ids.NodeNo.{NodeNo}
-use Rattle.mn_cell.specs.Calls.{numbered}
+use Rattle.std.proofs.Common.{◌≡◌, ◌∙◌, ℕ, List, length, sym, subst, arith, inl, inr, Some}
+use Rattle.std.specs.Prelude.{slice_get}
 use Rattle.mn_io.specs.DiskModel.{DiskState}
-use Rattle.mn_mini.specs.declared.record.Record.{Record}
-use Rattle.mn_mini.proofs.Parts.{same_self}
-use Rattle.mn_mini.specs.Node.{with_added}
-use Rattle.mn_mini.specs.RecordGrammar.{IsRecord}
-use Rattle.mn_node.specs.Node.{added_to, bodies_of}
-use Rattle.mn_node.proofs.Built.{all-reverse}
-use Rattle.mn_node.proofs.Found.{first_sound, pending_sound}
-use Rattle.mn_redo.specs.Grammar.{Stands}
 use Rattle.mn_runs.specs.declared.entry.Entry.{Entry}
-use Rattle.mn_runs.specs.declared.entry.What.TheVariants.{Restarted}
-use Rattle.mn_runs.specs.Calls.{node_entries}
-use Rattle.mn_serial.specs.History.{pasts_of}
-use Rattle.mn_serial.specs.Meaning.{IsStop, OpenedRun, StopsLeaveOpened}
-use Rattle.mn_law.specs.Opened.{IsOpened}
-use Rattle.mn_runs.specs.Nodes.{NodeAllows, added_by, is_down, node_records, stopped_request}
-use Rattle.mn_runs.specs.Protocol.{FollowsProtocol, Start, base_at, records_of, start_nodes, start_of, start_records}
-use Rattle.mn_law.specs.Run.{RunsFollowProtocol}
-use Rattle.mn_runs.specs.Protocol.{entries_of}
+use Rattle.mn_runs.specs.Protocol.{entries_of, start_of}
 use Rattle.mn_script.specs.Script.{Script}
 use Rattle.mn_top.specs.declared.words.Command.{Command}
-use Rattle.mn_top.specs.Crashes.{AreOpenable, HoldStore, StayOpenable, bases}
+use Rattle.mn_top.specs.Crashes.{AreOpenable, StayOpenable}
 use Rattle.mn_top.specs.declared.due.DamageRule.TheVariants.{Log, Votes, Both, Forest, Runs, Kept}
 use Rattle.mn_top.specs.declared.due.Due.{Due}
-use Rattle.mn_top.specs.declared.due.Due.TheVariants.{Report, Usage, Refused, ReadFault, DiskFault, Damaged, NoMemory, Disks, Unbuilt}
+use Rattle.mn_top.specs.declared.due.Due.TheVariants.{Report, Usage, Refused, ReadFault, DiskFault, Damaged, NoMemory, Disks}
 use Rattle.mn_top.specs.Ending.{ComesTo, EndsEarly, HasFailed, HasRun}
 use Rattle.mn_top.specs.Opening.{AreUnwritten}
-use Rattle.mn_top.specs.Replayed.{left_behind}
-use Rattle.mn_top.proofs.Gets.{one_at, there_at, within}
-
--- A node that comes back with the record of the request in which it stopped
-
-abbrev back : ℕ → Entry
-back m = record { node = Some (numbered m); client = None; what = Restarted true }
-
-at_it : (m : ℕ) (es : List Entry) → node_entries (numbered m) (back m ∷ es) ≡ back m ∷ node_entries (numbered m) es
-at_it m es = ap (λ (b : Bool). if b then back m ∷ node_entries (numbered m) es else node_entries (numbered m) es) (same_self (numbered m))
-
-beside : (m : ℕ) (n : NodeNo) (es : List Entry) → (n.0 ≡ m → ⊥) → node_entries n (back m ∷ es) ≡ node_entries n es
-beside m n es other = ap (λ (b : Bool). if b then back m ∷ node_entries n es else node_entries n es) (ne_eqb n.0 m other)
-
-module _ (start : Start) (past : List Entry) (images : List (List ℕ)) where
-  -- some of the first nodes have come back, so that each image of theirs is that of its records
-  pub record Chosen (m : ℕ) : Type 0 where
-    pub stops : List Entry
-    pub are : AllByRecursion (λ e. IsStop e.what) stops
-    pub follow : FollowsProtocol start (stops ++ past)
-    pub others : (n : NodeNo) → m ≤ n.0 → node_entries n (stops ++ past) ≡ node_entries n past
-    pub sound : (k : ℕ) → k < m → AllByRecursion IsRecord (records_of start (stops ++ past) (numbered k))
-    pub stand : (k : ℕ) (image : List ℕ) → k < m → slice_get images k ≡ Some image
-        → Stands k (start_nodes start) image (bodies_of (reverse (records_of start (stops ++ past) (numbered k))))
-
-  none_yet : FollowsProtocol start past → Chosen 0
-  none_yet follow = record { stops = []; are = tt; follow = follow; others = λ n le. refl; sound = λ k low. absurd (omega (arith, low)); stand = λ k image low is. absurd (omega (arith, low)) }
-
-  abbrev LeftSound : ℕ → Type 0
-  LeftSound m = AllByRecursion IsRecord (added_to (reverse (records_of start past (numbered m))) (left_behind start past (numbered m)))
-
-  module _ (m : ℕ) (among : m < start_nodes start) (before : Chosen m) (left : LeftSound m) where
-    here : node_entries (numbered m) (before.stops ++ past) ≡ node_entries (numbered m) past
-    here = before.others (numbered m) (omega arith)
-
-    abbrev recs : List Entry → List Record
-    recs es = node_records (base_at start (numbered m)) (start_records start (numbered m)) es
-
-    sound_here : AllByRecursion IsRecord (recs (node_entries (numbered m) past))
-    sound_here =
-        subst (AllByRecursion IsRecord) (reverse-reverse (records_of start past (numbered m)))
-        (all-reverse IsRecord (reverse (records_of start past (numbered m))) (first_sound (reverse (records_of start past (numbered m))) (left_behind start past (numbered m)) left))
-
-    -- it has its records already
-    stays : (image : List ℕ) → slice_get images m ≡ Some image → Stands m (start_nodes start) image (bodies_of (reverse (recs (node_entries (numbered m) past)))) → Chosen (m + 1)
-    stays image at stands = record {
-      stops = before.stops;
-      are = before.are;
-      follow = before.follow;
-      others = λ n le. before.others n (omega (arith, le));
-      sound = below_more (λ j. AllByRecursion IsRecord (records_of start (before.stops ++ past) (numbered j))) m before.sound (subst (λ (es : List Entry). AllByRecursion IsRecord (recs es)) (sym here) sound_here);
-      stand = λ k other low is.
-          below_more (λ j. (c : List ℕ) → slice_get images j ≡ Some c → Stands j (start_nodes start) c (bodies_of (reverse (records_of start (before.stops ++ past) (numbered j))))) m
-          (λ j lower c there. before.stand j c lower there)
-          (λ c there.
-          subst (λ (d : List ℕ). Stands m (start_nodes start) d (bodies_of (reverse (records_of start (before.stops ++ past) (numbered m))))) (one_at images m image c at there)
-          (subst (λ (es : List Entry). Stands m (start_nodes start) image (bodies_of (reverse (recs es)))) (sym here) stands))
-          k low other is;
-    }
-
-    -- it comes back with one more
-    module _ (image : List ℕ) (r : Record) (at : slice_get images m ≡ Some image) (down : is_down (node_entries (numbered m) past) ≡ true)
-        (added : added_by (base_at start (numbered m)) (recs (node_entries (numbered m) past)) (stopped_request (node_entries (numbered m) past)) ≡ Some r) (one : IsRecord r)
-        (stands : Stands m (start_nodes start) image (bodies_of (reverse (recs (node_entries (numbered m) past)) ++ r ∷ []))) where
-      allowed : NodeAllows (base_at start (numbered m)) (start_records start (numbered m)) (node_entries (numbered m) (before.stops ++ past)) (Restarted true)
-      allowed = subst (λ (es : List Entry). NodeAllows (base_at start (numbered m)) (start_records start (numbered m)) es (Restarted true)) (sym here) (down, subst (λ (o : Option Record). IsSome o) (sym added) refl)
-
-      records_are : recs (node_entries (numbered m) (back m ∷ (before.stops ++ past))) ≡ r ∷ recs (node_entries (numbered m) past)
-      records_are =
-          ap recs (at_it m (before.stops ++ past) ∙ ap (λ (es : List Entry). back m ∷ es) here)
-          ∙ ap (λ (o : Option Record). with_added o (recs (node_entries (numbered m) past))) added
-
-      comes_here : Stands m (start_nodes start) image (bodies_of (reverse (recs (node_entries (numbered m) (back m ∷ (before.stops ++ past))))))
-      comes_here =
-          subst (λ (l : List Record). Stands m (start_nodes start) image (bodies_of l))
-          (sym (ap (λ (l : List Record). reverse l) records_are ∙ reverse-append (r ∷ []) (recs (node_entries (numbered m) past)))) stands
-
-      comes : Chosen (m + 1)
-      comes = record {
-        stops = back m ∷ before.stops;
-        are = (tt, before.are);
-        follow = (before.follow, record { actor = tt; at_node = (among, allowed); by_client = tt; of_run = tt });
-        others = λ n le. beside m n (before.stops ++ past) (λ e. omega (arith, le, e)) ∙ before.others n (omega (arith, le));
-        sound = below_more (λ j. AllByRecursion IsRecord (records_of start (back m ∷ (before.stops ++ past)) (numbered j))) m
-            (λ j lower.
-            subst (λ (es : List Entry). AllByRecursion IsRecord (node_records (base_at start (numbered j)) (start_records start (numbered j)) es))
-            (sym (beside m (numbered j) (before.stops ++ past) (λ e. omega (arith, lower, e)))) (before.sound j lower))
-            (subst (AllByRecursion IsRecord) (sym records_are) (one, sound_here));
-        stand = λ k other low is.
-            below_more (λ j. (c : List ℕ) → slice_get images j ≡ Some c → Stands j (start_nodes start) c (bodies_of (reverse (records_of start (back m ∷ (before.stops ++ past)) (numbered j))))) m
-            (λ j lower c there.
-            subst (λ (es : List Entry). Stands j (start_nodes start) c (bodies_of (reverse (node_records (base_at start (numbered j)) (start_records start (numbered j)) es))))
-            (sym (beside m (numbered j) (before.stops ++ past) (λ e. omega (arith, lower, e)))) (before.stand j c lower there))
-            (λ c there. subst (λ (d : List ℕ). Stands m (start_nodes start) d (bodies_of (reverse (records_of start (back m ∷ (before.stops ++ past)) (numbered m))))) (one_at images m image c at there) comes_here)
-            k low other is;
-      }
-
-    -- as its image says
-    by_down : (image : List ℕ) → slice_get images m ≡ Some image → (down : Bool) (added : Option Record) → is_down (node_entries (numbered m) past) ≡ down
-        → added_by (base_at start (numbered m)) (recs (node_entries (numbered m) past)) (stopped_request (node_entries (numbered m) past)) ≡ added
-        → AllByRecursion IsRecord (added_to (reverse (recs (node_entries (numbered m) past))) (if down then added else None))
-        → Stands m (start_nodes start) image (bodies_of (added_to (reverse (recs (node_entries (numbered m) past))) (if down then added else None))) → Chosen (m + 1)
-    by_down image at true (Some r) down added sound stands = comes image r at down added (pending_sound (reverse (recs (node_entries (numbered m) past))) (Some r) r refl sound) stands
-    by_down image at true None down added sound stands = stays image at stands
-    by_down image at false added down is sound stands = stays image at stands
-
-    chosen_by : (image : List ℕ) → slice_get images m ≡ Some image → Stands m (start_nodes start) image (bodies_of (reverse (records_of start past (numbered m))))
-        ⊎ Stands m (start_nodes start) image (bodies_of (added_to (reverse (records_of start past (numbered m))) (left_behind start past (numbered m)))) → Chosen (m + 1)
-    chosen_by image at (inl stands) = stays image at stands
-    chosen_by image at (inr stands) =
-        by_down image at (is_down (node_entries (numbered m) past)) (added_by (base_at start (numbered m)) (recs (node_entries (numbered m) past)) (stopped_request (node_entries (numbered m) past))) refl refl left stands
-
-  -- all of them
-  chosen : FollowsProtocol start past → ((k : ℕ) → k < start_nodes start → LeftSound k) → length images ≡ start_nodes start
-      → ((k : ℕ) (image : List ℕ) → slice_get images k ≡ Some image → Stands k (start_nodes start) image (bodies_of (reverse (records_of start past (numbered k))))
-      ⊎ Stands k (start_nodes start) image (bodies_of (added_to (reverse (records_of start past (numbered k))) (left_behind start past (numbered k))))) → (m : ℕ) → m ≤ start_nodes start → Chosen m
-  chosen follow left count each zero le = none_yet follow
-  chosen follow left count each (suc m) le =
-      let before = chosen follow left count each m (omega (arith, le)) in
-      let there = there_at images m (omega (arith, le, count)) in
-      subst Chosen (add-one m) (chosen_by m (omega (arith, le)) before (left m (omega (arith, le))) there.0 there.1 (each m there.0 there.1))
-
-  pub hold : StopsLeaveOpened → FollowsProtocol start past → ((k : ℕ) → k < start_nodes start → LeftSound k) → (store : Store) → OpenedRun start store past → length images ≡ start_nodes start
-      → ((k : ℕ) (image : List ℕ) → slice_get images k ≡ Some image → Stands k (start_nodes start) image (bodies_of (reverse (records_of start past (numbered k))))
-      ⊎ Stands k (start_nodes start) image (bodies_of (added_to (reverse (records_of start past (numbered k))) (left_behind start past (numbered k))))) → HoldStore images
-  hold leave follow left store run count each =
-      let all = chosen follow left count each (start_nodes start) (omega arith) in
-      let opened = leave start store past all.stops run all.are all.follow in
-      record {
-        lists = records_of start (all.stops ++ past);
-        store = store_after store (pasts_of opened.0);
-        sound = λ n low. all.sound n.0 (omega (arith, low, count));
-        stand = λ k image is.
-            subst (λ (n : ℕ). Stands k n image (bodies_of (reverse (records_of start (all.stops ++ past) (numbered k))))) (sym count)
-            (all.stand k image (let low = within images k image is in omega (arith, low, count)) is);
-        opened = subst (λ (n : ℕ). IsOpened n (bases n) (records_of start (all.stops ++ past)) (store_after store (pasts_of opened.0))) (sym count) opened.2;
-      }
-
--- Disks
+use Rattle.mn_top.proofs.Gets.{there_at, within}
+use Rattle.mn_top.proofs.Stopped.{hold}
 
 module _ {D : Type 0} (state : D → DiskState) (given left : List D) (count : length left ≡ length given) where
   given_at : (k : ℕ) (new : D) → slice_get left k ≡ Some new → (old : D) × (slice_get given k ≡ Some old)
   given_at k new is = there_at given k (let low = within left k new is in omega (arith, low, count))
 
-  untouched : AreUnwritten state given left → StayOpenable state given left
+  pub untouched : AreUnwritten state given left → StayOpenable state given left
   untouched same open' = record {
     honest = λ k new is. let old = given_at k new is in (same k old.0 new old.1 is).honest (open'.honest k old.0 old.1);
     hold = λ images are. open'.hold images (record {
@@ -190,22 +30,11 @@ module _ {D : Type 0} (state : D → DiskState) (given left : List D) (count : l
     });
   }
 
-  module _ (follow : RunsFollowProtocol) (leave : StopsLeaveOpened) (faults : D → ℕ) (command : Command) (script : Script) (log : List (ℕ × Entry)) where
+  module _ (faults : D → ℕ) (command : Command) (script : Script) (log : List (ℕ × Entry)) where
     ran : (past : List (ℕ × Entry)) → HasRun state faults (record { command = command; script = script; given = given; left = left; log = log }) past → StayOpenable state given left
     ran past run open' = record {
       honest = λ k new is. let old = given_at k new is in (run.disks k old.0 new old.1 is).honest (open'.honest k old.0 old.1);
-      hold = λ images are.
-          let start = start_of run.records in
-          hold start (entries_of past) images leave (follow start (entries_of past) run.run.run)
-          (λ k low.
-          let old = there_at given k (let same = run.shown.count in omega (arith, low, same)) in
-          let new = there_at left k (let same = run.shown.count in omega (arith, low, same, count)) in
-          (run.disks k old.0 new.0 old.1 new.1).sound)
-          run.store (record { opened = run.opened; run = run.run.run }) (are.count ∙ count ∙ sym run.shown.count)
-          (λ k image is.
-          let new = there_at left k (let low = within images k image is in omega (arith, low, are.count)) in
-          let old = given_at k new.0 new.1 in
-          (run.disks k old.0 new.0 old.1 new.1).stands (open'.honest k old.0 old.1) image (are.each k new.0 image new.1 is));
+      hold = λ images are. hold (start_of run.records) run.store (entries_of past) images (are.count ∙ count ∙ sym run.shown.count) (run.stops open'.honest images are);
     }
 
     after_fault : (n : ℕ) → HasFailed state faults (record { command = command; script = script; given = given; left = left; log = log }) n → StayOpenable state given left
@@ -228,6 +57,7 @@ module _ {D : Type 0} (state : D → DiskState) (given left : List D) (count : l
       run = done.run;
       of_script = done.of_script;
       disks = λ k old new was is. (done.disks k old new was is).0;
+      stops = done.stops;
     })
     stay (DiskFault n) failed = after_fault n failed
     stay (Damaged n place Log) damage = untouched damage.0.0
@@ -241,7 +71,6 @@ module _ {D : Type 0} (state : D → DiskState) (given left : List D) (count : l
     stay (Refused row column) told = absurd told
     stay ReadFault told = absurd told
     stay (Disks told wanted) is_told = absurd is_told
-    stay Unbuilt told = absurd told
 
 pub same_stay : {D : Type 0} (state : D → DiskState) (given left : List D) → left ≡ given → StayOpenable state given left
 same_stay {D} state given left is open' = subst (λ (l : List D). AreOpenable state l) (sym is) open'

@@ -12,6 +12,7 @@ use Rattle.mn_mini.specs.Laws.{PartsAreApart}
 use Rattle.mn_mini.specs.Node.{held_parts}
 use Rattle.mn_mini.specs.RecordGrammar.{IsRecord, record_bytes}
 use Rattle.mn_mini.proofs.RecordBytes.{record_once}
+use Rattle.mn_node.proofs.Listed.{up_to}
 use Rattle.mn_node.specs.Node.{bodies_of}
 use Rattle.mn_node.specs.State.{AreRecords, NodeState}
 use Rattle.mn_node.proofs.Steps.{rose_later}
@@ -26,15 +27,16 @@ use Rattle.mn_runs.specs.Protocol.{start_of, start_records}
 use Rattle.mn_runs.proofs.Records.{in_place_apart}
 use Rattle.mn_top.specs.declared.due.DamageRule.TheVariants.{Log, Votes, Both, Forest, Runs, Kept}
 use Rattle.mn_top.specs.declared.due.Due.{Due}
-use Rattle.mn_top.specs.declared.due.Due.TheVariants.{Report, Usage, Refused, ReadFault, DiskFault, Damaged, NoMemory, Disks, Unbuilt}
+use Rattle.mn_top.specs.declared.due.Due.TheVariants.{Report, Usage, Refused, ReadFault, DiskFault, Damaged, NoMemory, Disks}
 use Rattle.mn_top.specs.Ending.{ComesTo, HasRun}
 use Rattle.mn_top.specs.Logs.{AllRead, AreJudged, AreReady, AreStarted, IsDueAtStart, IsReady, MakeStart, MayAllBeStarted, WerentStarted}
 use Rattle.mn_top.specs.Opening.{AreUnwritten, Show}
 use Rattle.mn_top.specs.Replayed.{IsLeft}
 use Rattle.mn_top.proofs.Gets.{there_at, within}
+use Rattle.mn_top.proofs.Stopped.{Laws, any_stop}
 
 -- bodies are those of one list of records
-bodies_once : (a b : List Record) → AllByRecursion IsRecord a → AllByRecursion IsRecord b → bodies_of a ≡ bodies_of b → a ≡ b
+pub bodies_once : (a b : List Record) → AllByRecursion IsRecord a → AllByRecursion IsRecord b → bodies_of a ≡ bodies_of b → a ≡ b
 bodies_once [] [] p q e = refl
 bodies_once [] (s ∷ b) p q e = absurd cc
 bodies_once (r ∷ a) [] p q e = absurd cc
@@ -140,9 +142,8 @@ module _ {D : Type 0} (state : D → DiskState) (faults : D → ℕ) (given : Li
   misfit command script left log (Refused row column) same none judged = absurd judged
   misfit command script left log ReadFault same none judged = absurd judged
   misfit command script left log (Disks told wanted) same none judged = absurd judged
-  misfit command script left log Unbuilt same none judged = absurd judged
 
-  module _ (command : Command) (script : Script) (left : List D) (due : Due) (werent : WerentStarted state faults redos left due) (store : Store) (number : ℕ) (made : MakeStart records store number) where
+  module _ (laws : Laws) (command : Command) (script : Script) (left : List D) (due : Due) (werent : WerentStarted state faults redos left due) (store : Store) (number : ℕ) (made : MakeStart records store number) where
     list_is : (k : ℕ) (list : List Record) → slice_get records k ≡ Some list → list ≡ reverse (start_records (start_of records) (numbered k))
     list_is k list is = sym (get_or_from_slice_get records k list [] is) ∙ sym (reverse-reverse (slice_index_or records k []))
 
@@ -159,10 +160,11 @@ module _ {D : Type 0} (state : D → DiskState) (faults : D → ℕ) (given : Li
           honest = λ h. still.honest (read.unwritten.honest h);
           sound = subst (AllByRecursion IsRecord) (list_is k list.0 list.1) read.records.sound;
           stands = λ h c image. inl (
-              subst (λ (l : List Record). Stands k (length records) c (bodies_of l)) (list_is k list.0 list.1)
+              up_to k (length records) c 0 (reverse (start_records (start_of records) (numbered k))) (omega arith)
+              (subst (λ (l : List Record). Stands k (length records) c (bodies_of l)) (list_is k list.0 list.1)
               (subst (λ (l : List (List ℕ)). Stands k (length records) c l) read.records.bodies_are
               (subst (λ (n : ℕ). Stands k n c redo.0.bodies) (read.nodes_are ∙ sym records_count)
-              (subst (λ (n : ℕ). Stands n redo.0.nodes c redo.0.bodies) read.node (still.stands (read.unwritten.honest h) c image))))
+              (subst (λ (n : ℕ). Stands n redo.0.nodes c redo.0.bodies) read.node (still.stands (read.unwritten.honest h) c image)))))
               );
           stops = tt;
           counted = omega (arith, later, more);
@@ -170,7 +172,7 @@ module _ {D : Type 0} (state : D → DiskState) (faults : D → ℕ) (given : Li
         }
 
     no_run : HasRun state faults (record { command = command; script = script; given = given; left = left; log = [] }) []
-    no_run = record { records = records; shown = shown; store = store; opened = made.opened; numbered_so = made.numbered_so; run = record { places = refl; run = tt }; of_script = record { plain = λ c low. refl; begins = λ c. refl }; disks = still_at }
+    no_run = record { records = records; shown = shown; store = store; opened = made.opened; numbered_so = made.numbered_so; run = record { places = refl; run = tt }; of_script = record { plain = λ c low. refl; begins = λ c. refl }; disks = still_at; stops = any_stop laws state faults given left (werent.count ∙ all.whole) records shown store made.opened [] tt still_at }
 
     fault_at : (due' : Due) → IsDueAtStart faults redos left due' → ComesTo state faults (record { command = command; script = script; given = given; left = left; log = [] }) due'
     fault_at (DiskFault n) failed =
@@ -192,7 +194,6 @@ module _ {D : Type 0} (state : D → DiskState) (faults : D → ℕ) (given : Li
     fault_at (Refused row column) told = absurd told
     fault_at ReadFault told = absurd told
     fault_at (Disks told wanted) is_told = absurd is_told
-    fault_at Unbuilt told = absurd told
 
     pub not_started : ComesTo state faults (record { command = command; script = script; given = given; left = left; log = [] }) due
     not_started = fault_at due werent.due_is

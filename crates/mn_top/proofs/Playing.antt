@@ -13,11 +13,10 @@ use Rattle.mn_cell.proofs.Made.{all_keep_on}
 use Rattle.mn_io.specs.DiskModel.{DiskState}
 use Rattle.mn_mini.specs.declared.record.Record.{Record}
 use Rattle.mn_mini.specs.RecordGrammar.{IsRecord}
-use Rattle.mn_node.specs.Node.{StandsWithOrWithout, added_to, bodies_of}
-use Rattle.mn_node.specs.State.{NodeState}
+use Rattle.mn_node.specs.Node.{added_to}
+use Rattle.mn_node.specs.State.{NodeState, StandsForUpTo, StandsUpToWithOrWithout}
 use Rattle.mn_node.proofs.Found.{first_sound}
 use Rattle.mn_node.proofs.Steps.{rose_later}
-use Rattle.mn_redo.specs.Redo.{StandsFor}
 use Rattle.mn_callers.specs.Failed.{FailsSo, HadOther, HasCause, IsDamage, IsRunOn, TellsRun}
 use Rattle.mn_callers.specs.Trace.{AreHandedBack, IsHandedBack, IsOfScript, IsQuiet, IsTrace, StartsSound, start_on}
 use Rattle.mn_script.specs.Script.{Script}
@@ -26,16 +25,18 @@ use Rattle.mn_runs.specs.declared.entry.Entry.{Entry}
 use Rattle.mn_runs.specs.Calls.{node_entries}
 use Rattle.mn_runs.specs.Nodes.{added_by, is_down, stopped_request}
 use Rattle.mn_runs.specs.Protocol.{Start, base_at, records_of, start_nodes, start_of, entries_of}
-use Rattle.mn_law.specs.Run.{IsLogOfRun}
+use Rattle.mn_law.specs.Run.{IsLogOfRun, IsRun}
 use Rattle.mn_causes.specs.Undisturbed.{UndisturbedIsAnswered}
 use Rattle.mn_top.specs.declared.due.Due.{Due}
-use Rattle.mn_top.specs.declared.due.Due.TheVariants.{Report, Usage, Refused, ReadFault, DiskFault, Damaged, NoMemory, Disks, Unbuilt}
+use Rattle.mn_top.specs.declared.due.Due.TheVariants.{Report, Usage, Refused, ReadFault, DiskFault, Damaged, NoMemory, Disks}
 use Rattle.mn_top.specs.Ending.{ComesTo, HasRun}
 use Rattle.mn_top.specs.Logs.{AllCloseSo, AreReady, ClosesSo, IsReady, IsToldOf, MakeStart, due_of_failing}
 use Rattle.mn_top.specs.Opening.{Show}
 use Rattle.mn_top.specs.Replayed.{FollowsBy, FollowsToClosingBy, IsLeft, StandsAsLogged, left_behind}
+use Rattle.mn_top.specs.Crashes.{AnyStopLeaves}
 use Rattle.mn_top.proofs.Gets.{map_at, mapped_at, there_at, within}
 use Rattle.mn_top.proofs.Starting.{all_at}
+use Rattle.mn_top.proofs.Stopped.{Laws, any_stop}
 
 -- Counts of faults
 
@@ -44,21 +45,21 @@ rose_before by old before now le rose = omega (arith, rose, le)
 
 -- One node
 
-same_for : (disk : DiskState) (n n' ns ns' : ℕ) (rs rs' : List Record) → n ≡ n' → ns ≡ ns' → rs ≡ rs' → StandsFor disk n ns (bodies_of rs) → StandsFor disk n' ns' (bodies_of rs')
+same_for : (disk : DiskState) (n n' ns ns' : ℕ) (rs rs' : List Record) → n ≡ n' → ns ≡ ns' → rs ≡ rs' → StandsForUpTo disk n ns rs → StandsForUpTo disk n' ns' rs'
 same_for disk n n' ns ns' rs rs' e f g stands =
-    subst (λ (l : List Record). StandsFor disk n' ns' (bodies_of l)) g (subst (λ (k : ℕ). StandsFor disk n' k (bodies_of rs)) f (subst (λ (k : ℕ). StandsFor disk k ns (bodies_of rs)) e stands))
+    subst (λ (l : List Record). StandsForUpTo disk n' ns' l) g (subst (λ (k : ℕ). StandsForUpTo disk n' k rs) f (subst (λ (k : ℕ). StandsForUpTo disk k ns rs) e stands))
 
-same_with : (disk : DiskState) (n n' ns ns' : ℕ) (rs rs' : List Record) (o o' : Option Record) → n ≡ n' → ns ≡ ns' → rs ≡ rs' → o ≡ o' → StandsWithOrWithout disk n ns rs o → StandsWithOrWithout disk n' ns' rs' o'
+same_with : (disk : DiskState) (n n' ns ns' : ℕ) (rs rs' : List Record) (o o' : Option Record) → n ≡ n' → ns ≡ ns' → rs ≡ rs' → o ≡ o' → StandsUpToWithOrWithout disk n ns rs o → StandsUpToWithOrWithout disk n' ns' rs' o'
 same_with disk n n' ns ns' rs rs' o o' e f g h stands =
-    subst (λ (p : Option Record). StandsWithOrWithout disk n' ns' rs' p) h
-    (subst (λ (l : List Record). StandsWithOrWithout disk n' ns' l o) g (subst (λ (k : ℕ). StandsWithOrWithout disk n' k rs o) f (subst (λ (k : ℕ). StandsWithOrWithout disk k ns rs o) e stands)))
+    subst (λ (p : Option Record). StandsUpToWithOrWithout disk n' ns' rs' p) h
+    (subst (λ (l : List Record). StandsUpToWithOrWithout disk n' ns' l o) g (subst (λ (k : ℕ). StandsUpToWithOrWithout disk n' k rs o) f (subst (λ (k : ℕ). StandsUpToWithOrWithout disk k ns rs o) e stands)))
 
 module _ {D : Type 0} (state : D → DiskState) (faults : D → ℕ) (start : Start) (past : List Entry) (n : NodeNo) (given left : NodeState D) (back : IsHandedBack state faults start past n given left) (closes : ClosesSo state left) where
   records_are : left.records ≡ reverse (records_of start past n)
   records_are = sym (reverse-reverse left.records) ∙ ap (λ (l : List Record). reverse l) back.records
 
   -- the disk of a node that is up
-  up_stands : is_down (node_entries n past) ≡ false → (state left.disk).honest → StandsFor (state left.disk) n.0 (start_nodes start) (bodies_of (reverse (records_of start past n)))
+  up_stands : is_down (node_entries n past) ≡ false → (state left.disk).honest → StandsForUpTo (state left.disk) n.0 (start_nodes start) (reverse (records_of start past n))
   up_stands up h = same_for (state left.disk) left.node n.0 left.nodes (start_nodes start) left.records (reverse (records_of start past n)) back.node back.nodes records_are (closes.up (back.down ∙ up) h)
 
   behind_down : is_down (node_entries n past) ≡ true → left_behind start past n ≡ added_by (base_at start n) (records_of start past n) (stopped_request (node_entries n past))
@@ -67,13 +68,13 @@ module _ {D : Type 0} (state : D → DiskState) (faults : D → ℕ) (start : St
   behind_up : is_down (node_entries n past) ≡ false → left_behind start past n ≡ None
   behind_up up = ap (λ (b : Bool). if b then added_by (base_at start n) (records_of start past n) (stopped_request (node_entries n past)) else None) up
 
-  stands_by : (down : Bool) → is_down (node_entries n past) ≡ down → (state left.disk).honest → StandsWithOrWithout (state left.disk) n.0 (start_nodes start) (reverse (records_of start past n)) (left_behind start past n)
+  stands_by : (down : Bool) → is_down (node_entries n past) ≡ down → (state left.disk).honest → StandsUpToWithOrWithout (state left.disk) n.0 (start_nodes start) (reverse (records_of start past n)) (left_behind start past n)
   stands_by true is h =
       same_with (state left.disk) left.node n.0 left.nodes (start_nodes start) left.records (reverse (records_of start past n)) left.pending (left_behind start past n) back.node back.nodes records_are
       (back.pending (back.down ∙ is) ∙ sym (behind_down is)) (closes.stands h)
-  stands_by false is h = subst (λ (o : Option Record). StandsWithOrWithout (state left.disk) n.0 (start_nodes start) (reverse (records_of start past n)) o) (sym (behind_up is)) (λ c image. inl (up_stands is h c image))
+  stands_by false is h = subst (λ (o : Option Record). StandsUpToWithOrWithout (state left.disk) n.0 (start_nodes start) (reverse (records_of start past n)) o) (sym (behind_up is)) (λ c image. inl (up_stands is h c image))
 
-  stands_behind : (state left.disk).honest → StandsWithOrWithout (state left.disk) n.0 (start_nodes start) (reverse (records_of start past n)) (left_behind start past n)
+  stands_behind : (state left.disk).honest → StandsUpToWithOrWithout (state left.disk) n.0 (start_nodes start) (reverse (records_of start past n)) (left_behind start past n)
   stands_behind = stands_by (is_down (node_entries n past)) refl
 
   sound_by : (down : Bool) → is_down (node_entries n past) ≡ down → AllByRecursion IsRecord (added_to (reverse (records_of start past n)) (left_behind start past n))
@@ -157,21 +158,24 @@ module _ {D : Type 0} (state : D → DiskState) (faults : D → ℕ) (given : Li
         let begun = ready_at k old m was n.2 in
         let low : k < length records = let lower = within given k old was in omega (arith, lower, ready.same) in
         let so = back k m w n.2 n.3 in
-        subst (λ (d : D). StandsFor (state d) k (length records) (bodies_of (reverse (records_of (start_of records) past (numbered k))))) n.4
+        subst (λ (d : D). StandsForUpTo (state d) k (length records) (reverse (records_of (start_of records) past (numbered k)))) n.4
         (up_stands state faults (start_of records) past (numbered k) m w so (all_at (ClosesSo state) after k w close n.3) (up (numbered k) low) (so.honest (begun.1.honest h)))
 
     same_run : (past : List (ℕ × Entry)) → IsRunOn state faults script nodes after past → IsLogOfRun (start_of records) past × IsOfScript script (entries_of past) × AreHandedBack state faults (start_of records) (entries_of past) nodes after
     same_run past run = subst (λ (s : Start). IsLogOfRun s past × IsOfScript script (entries_of past) × AreHandedBack state faults s (entries_of past) nodes after) start_same run
 
-    has_run : (log past : List (ℕ × Entry)) → IsRunOn state faults script nodes after past → HasRun state faults (record { command = command; script = script; given = given; left = left; log = log }) past
-    has_run log past run = let so = same_run past run in
-        record { records = records; shown = shown; store = store; opened = made.opened; numbered_so = made.numbered_so; run = so.0; of_script = so.1; disks = left_at (entries_of past) so.2 }
+    stops_so : Laws → (past : List Entry) → IsRun (start_of records) past → AreHandedBack state faults (start_of records) past nodes after → AnyStopLeaves state given left (start_of records) store past
+    stops_so laws past run back = any_stop laws state faults given left (ap length is ∙ length-map after (λ (w : NodeState D). w.disk) ∙ count ∙ ready.count) records shown store made.opened past run (left_at past back)
+
+    has_run : Laws → (log past : List (ℕ × Entry)) → IsRunOn state faults script nodes after past → HasRun state faults (record { command = command; script = script; given = given; left = left; log = log }) past
+    has_run laws log past run = let so = same_run past run in
+        record { records = records; shown = shown; store = store; opened = made.opened; numbered_so = made.numbered_so; run = so.0; of_script = so.1; disks = left_at (entries_of past) so.2; stops = stops_so laws (entries_of past) so.0.run so.2 }
 
     -- a run that failed
-    failed_so : (log : List (ℕ × Entry)) (cause : RunCause) → HasCause state faults nodes after log cause → TellsRun state faults script nodes after log cause
+    failed_so : Laws → (log : List (ℕ × Entry)) (cause : RunCause) → HasCause state faults nodes after log cause → TellsRun state faults script nodes after log cause
         → (IsDamage cause → FollowsToClosingBy command (start_on nodes) script (entries_of log)) → ComesTo state faults (record { command = command; script = script; given = given; left = left; log = log }) (due_of_failing cause)
     unfolding has_run
-    failed_so log (runs.Disk n) (at, rose) run follows =
+    failed_so laws log (runs.Disk n) (at, rose) run follows =
         let old = given_at n.0 at.before at.was in
         let begun = ready_at n.0 old.0 at.before old.1 at.was in
         record {
@@ -180,13 +184,13 @@ module _ {D : Type 0} (state : D → DiskState) (faults : D → ℕ) (given : Li
           was = old.1;
           is = ap (λ (l : List D). slice_get l n.0) is ∙ mapped_at (λ (w : NodeState D). w.disk) after n.0 at.now at.is;
           rose = rose_before _ (faults old.0) (faults at.before.disk) (faults at.now.disk) begun.1.later rose;
-          log = inr (has_run log log run);
+          log = inr (has_run laws log log run);
         }
-    failed_so log (runs.Damaged n place kept found) (at, dishonest, down, other) run follows =
+    failed_so laws log (runs.Damaged n place kept found) (at, dishonest, down, other) run follows =
         let old = given_at n.0 at.before at.was in
         let begun = ready_at n.0 old.0 at.before old.1 at.was in
         record {
-          made = has_run log log run;
+          made = has_run laws log log run;
           follows = subst (λ (s : Start). FollowsToClosingBy command s script (entries_of log)) start_same (follows tt);
           old = old.0;
           was = old.1;
@@ -196,11 +200,11 @@ module _ {D : Type 0} (state : D → DiskState) (faults : D → ℕ) (given : Li
           found = found;
           other = subst (λ (s : Start). HadOther s (entries_of log) n place kept found) start_same other;
         }
-    failed_so log runs.NoMemory none (past, run) follows = inr (past, has_run log past run, inr none)
+    failed_so laws log runs.NoMemory none (past, run) follows = inr (past, has_run laws log past run, inr none)
 
     -- a run that is done
-    told_so : UndisturbedIsAnswered → (log : List (ℕ × Entry)) → IsTrace state faults script nodes after log → FollowsBy command (start_on nodes) script (entries_of log) → (due : Due) → IsToldOf (start_of records) store script (entries_of log) due → ComesTo state faults (record { command = command; script = script; given = given; left = left; log = log }) due
-    told_so law log trace follows (Report text) (report, audit, spelled) =
+    told_so : Laws → UndisturbedIsAnswered → (log : List (ℕ × Entry)) → IsTrace state faults script nodes after log → FollowsBy command (start_on nodes) script (entries_of log) → (due : Due) → IsToldOf command (start_of records) store script (entries_of log) due → ComesTo state faults (record { command = command; script = script; given = given; left = left; log = log }) due
+    told_so laws law log trace follows (Report text) told =
         let so = same_run log (trace.run, trace.of_script, trace.back) in
         let quiet = subst (λ (s : Start). StartsSound s → IsQuiet s (entries_of log)) start_same trace.quiet made.opened.sound in
         record {
@@ -212,26 +216,24 @@ module _ {D : Type 0} (state : D → DiskState) (faults : D → ℕ) (given : Li
           run = so.0;
           follows = subst (λ (s : Start). FollowsBy command s script (entries_of log)) start_same follows;
           of_script = so.1;
-          report = report;
-          audit = audit;
+          told = told;
           answered = λ c number answer low op free.
               law (start_of records) store (entries_of log) c number answer (record { opened = made.opened; run = so.0.run }) (record { undisturbed = op; free = free; recovers = so.1.plain c low });
-          printed = spelled;
           quiet = quiet;
           disks = λ k old new was at. (left_at (entries_of log) so.2 k old new was at, up_at (entries_of log) so.2 quiet.0 k old new was at);
+          stops = stops_so laws (entries_of log) so.0.run so.2;
         }
-    told_so law log trace follows NoMemory told = inr (log, has_run log log (trace.run, trace.of_script, trace.back), inl refl)
-    told_so law log trace follows (DiskFault n) told = absurd told
-    told_so law log trace follows (Damaged n place rule) told = absurd told
-    told_so law log trace follows Usage told = absurd told
-    told_so law log trace follows (Refused row column) told = absurd told
-    told_so law log trace follows ReadFault told = absurd told
-    told_so law log trace follows (Disks told wanted) is_told = absurd is_told
-    told_so law log trace follows Unbuilt told = absurd told
+    told_so laws law log trace follows NoMemory told = inr (log, has_run laws log log (trace.run, trace.of_script, trace.back), inl refl)
+    told_so laws law log trace follows (DiskFault n) told = absurd told
+    told_so laws law log trace follows (Damaged n place rule) told = absurd told
+    told_so laws law log trace follows Usage told = absurd told
+    told_so laws law log trace follows (Refused row column) told = absurd told
+    told_so laws law log trace follows ReadFault told = absurd told
+    told_so laws law log trace follows (Disks told wanted) is_told = absurd is_told
 
-    pub played : UndisturbedIsAnswered → (log : List (ℕ × Entry)) (due : Due) → IsTrace state faults script nodes after log → FollowsBy command (start_on nodes) script (entries_of log) → IsToldOf (start_on nodes) store script (entries_of log) due → ComesTo state faults (record { command = command; script = script; given = given; left = left; log = log }) due
-    played law log due trace follows told = told_so law log trace follows due (subst (λ (s : Start). IsToldOf s store script (entries_of log) due) start_same told)
+    pub played : Laws → UndisturbedIsAnswered → (log : List (ℕ × Entry)) (due : Due) → IsTrace state faults script nodes after log → FollowsBy command (start_on nodes) script (entries_of log) → IsToldOf command (start_on nodes) store script (entries_of log) due → ComesTo state faults (record { command = command; script = script; given = given; left = left; log = log }) due
+    played laws law log due trace follows told = told_so laws law log trace follows due (subst (λ (s : Start). IsToldOf command s store script (entries_of log) due) start_same told)
 
-    pub failed : (log : List (ℕ × Entry)) (cause : RunCause) → FailsSo state faults script nodes after log cause
+    pub failed : Laws → (log : List (ℕ × Entry)) (cause : RunCause) → FailsSo state faults script nodes after log cause
         → (IsDamage cause → FollowsToClosingBy command (start_on nodes) script (entries_of log)) → ComesTo state faults (record { command = command; script = script; given = given; left = left; log = log }) (due_of_failing cause)
-    failed log cause fails follows = failed_so log cause fails.cause_is fails.told follows
+    failed laws log cause fails follows = failed_so laws log cause fails.cause_is fails.told follows

@@ -1,5 +1,5 @@
 -- The logs of disks that are read one after the other.
-use Rattle.std.proofs.Common.{◌≡◌, ◌<◌, ◌+◌, ◌++◌, ◌∙◌, ℕ, zero, suc, List, [], ◌∷◌, length, map, drop, refl, ap, sym, subst, arith, inl, inr, Some, length-append, length-drop}
+use Rattle.std.proofs.Common.{◌≡◌, ◌<◌, ◌+◌, ◌++◌, ◌∙◌, ℕ, zero, suc, List, [], ◌∷◌, length, map, drop, ap, sym, subst, arith, inl, inr, Some, length-append, length-drop}
 use Rattle.std.specs.Prelude.{◌⊎◌, slice_get}
 use Rattle.std.proofs.lemmas.List.{length-map}
 use Rattle.mn_flat.proofs.Lists.{pushed_at}
@@ -7,13 +7,10 @@ use Rattle.mn_io.specs.DiskModel.{DiskState, IsDisk}
 use Rattle.mn_mini.specs.declared.record.Record.{Record}
 use Rattle.mn_redo.specs.Grammar.{Stands}
 use Rattle.mn_redo.specs.Redo.{RedoState}
-use Rattle.mn_script.specs.Script.{Script}
-use Rattle.mn_top.specs.declared.words.Command.{Command}
 use Rattle.mn_top.specs.declared.due.DamageRule.TheVariants.{Log, Votes, Both, Forest, Runs, Kept}
 use Rattle.mn_top.specs.declared.due.Due.{Due}
-use Rattle.mn_top.specs.declared.due.Due.TheVariants.{Report, Usage, Refused, ReadFault, DiskFault, Damaged, NoMemory, Disks, Unbuilt}
-use Rattle.mn_top.specs.Ending.{ComesTo}
-use Rattle.mn_top.specs.Logs.{AreRead, IsDueOf, WasRead, WasntRead}
+use Rattle.mn_top.specs.declared.due.Due.TheVariants.{Report, Usage, Refused, ReadFault, DiskFault, Damaged, NoMemory, Disks}
+use Rattle.mn_top.specs.Logs.{AreRead, IsDueAtOpening, IsDueOf, WasRead, WasntRead, WerentRead}
 use Rattle.mn_top.specs.Opening.{AreUnwritten, IsBadLog, IsUnwritten, ReadsAs, WereRead}
 use Rattle.mn_top.proofs.Gets.{drop_at, map_at, one_at, seam, split_at, there_at, unsome, within}
 
@@ -114,36 +111,25 @@ module _ {D : Type 0} (state : D → DiskState) (faults : D → ℕ) (is_disk : 
     before : (n : ℕ) → n ≡ length redos → WereRead state given n
     before n here m d low is = reads_before m d (subst (λ (k : ℕ). m < k) here low) is
 
-    so : (command : Command) (script : Script) (due' : Due) → IsDueOf state faults (length given) (length redos) disk bad due' → ComesTo state faults (record { command = command; script = script; given = given; left = left; log = [] }) due'
-    so command script (DiskFault n) (here, rose) = record {
-      old = disk;
-      new = bad;
-      was = ap (slice_get given) here ∙ at;
-      is = ap (slice_get left) here ∙ bad_at;
-      rose = rose;
-      log = inl ((untouched, refl), before n here);
+    due_so : (due' : Due) → IsDueOf state faults (length given) (length redos) disk bad due' → IsDueAtOpening state faults given left due'
+    due_so (DiskFault n) (here, rose) = (record { old = disk; new = bad; was = ap (slice_get given) here ∙ at; is = ap (slice_get left) here ∙ bad_at; rose = rose }, before n here)
+    due_so (Damaged n place Log) (here, bad_log) = record {
+      disk = disk;
+      is = ap (slice_get given) here ∙ at;
+      bad = subst (λ (k : ℕ). IsBadLog (length given) k (state disk) place) (sym here) bad_log;
+      before = before n here;
     }
-    so command script (Damaged n place Log) (here, bad_log) = (
-      (untouched, refl),
-      record {
-        disk = disk;
-        is = ap (slice_get given) here ∙ at;
-        bad = subst (λ (k : ℕ). IsBadLog (length given) k (state disk) place) (sym here) bad_log;
-        before = before n here;
-      },
-    )
-    so command script NoMemory told = inl (untouched, refl)
-    so command script (Damaged n place Votes) told = absurd told
-    so command script (Damaged n place Both) told = absurd told
-    so command script (Damaged n place (Forest rule)) told = absurd told
-    so command script (Damaged n place Runs) told = absurd told
-    so command script (Damaged n place Kept) told = absurd told
-    so command script (Report text) told = absurd told
-    so command script Usage told = absurd told
-    so command script (Refused row column) told = absurd told
-    so command script ReadFault told = absurd told
-    so command script (Disks told wanted) is_told = absurd is_told
-    so command script Unbuilt told = absurd told
+    due_so NoMemory told = tt
+    due_so (Damaged n place Votes) told = absurd told
+    due_so (Damaged n place Both) told = absurd told
+    due_so (Damaged n place (Forest rule)) told = absurd told
+    due_so (Damaged n place Runs) told = absurd told
+    due_so (Damaged n place Kept) told = absurd told
+    due_so (Report text) told = absurd told
+    due_so Usage told = absurd told
+    due_so (Refused row column) told = absurd told
+    due_so ReadFault told = absurd told
+    due_so (Disks told wanted) is_told = absurd is_told
 
-    pub wasnt_opened : (command : Command) (script : Script) → ComesTo state faults (record { command = command; script = script; given = given; left = left; log = [] }) due
-    wasnt_opened command script = so command script due wasnt.due_is
+    pub wasnt_opened : WerentRead state faults given left due
+    wasnt_opened = record { unwritten = untouched; due_is = due_so due wasnt.due_is }

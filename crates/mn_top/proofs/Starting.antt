@@ -8,8 +8,8 @@ use Rattle.mn_io.specs.DiskModel.{DiskState}
 use Rattle.mn_io.specs.Faults.{Rose}
 use Rattle.mn_mini.specs.declared.record.Record.{Record}
 use Rattle.mn_mini.specs.RecordGrammar.{IsRecord, record_bytes}
-use Rattle.mn_node.specs.Node.{StandsWithOrWithout, bodies_of}
-use Rattle.mn_node.specs.State.{AreRecords, IsFirstBadBody, NodeState, StandsForRecords}
+use Rattle.mn_node.specs.Node.{bodies_of}
+use Rattle.mn_node.specs.State.{AreRecords, IsFirstBadBody, NodeState, StandsUpToAll, StandsUpToWithOrWithout}
 use Rattle.mn_node.specs.declared.start.StartCause.{StartCause}
 use Rattle.mn_node.specs.declared.start.StartCause.TheVariants as starts
 use Rattle.mn_redo.specs.Redo.{RedoState, StandsFor}
@@ -37,11 +37,11 @@ closed_more {X} {Y} f P all done left left' x room disks disks' y split popped w
   all_and P done x closed p,
 )
 
-pub closes : {D : Type 0} (state : D → DiskState) (n : NodeState D) (disk : D) → disk ≡ n.disk → (n.down ≡ false → StandsForRecords (state disk) n.node n.nodes n.records)
-    → ((state disk).honest → StandsWithOrWithout (state disk) n.node n.nodes n.records n.pending) → ClosesSo state n
+pub closes : {D : Type 0} (state : D → DiskState) (n : NodeState D) (disk : D) → disk ≡ n.disk → (n.down ≡ false → StandsUpToAll (state disk) n.node n.nodes n.records)
+    → ((state disk).honest → StandsUpToWithOrWithout (state disk) n.node n.nodes n.records n.pending) → ClosesSo state n
 closes {D} state n disk is up stands = record {
-  up = λ down. subst (λ (d : D). StandsForRecords (state d) n.node n.nodes n.records) is (up down);
-  stands = λ h. subst (λ (d : D). StandsWithOrWithout (state d) n.node n.nodes n.records n.pending) is (stands (subst (λ (d : D). (state d).honest) (sym is) h));
+  up = λ down. subst (λ (d : D). StandsUpToAll (state d) n.node n.nodes n.records) is (up down);
+  stands = λ h. subst (λ (d : D). StandsUpToWithOrWithout (state d) n.node n.nodes n.records n.pending) is (stands (subst (λ (d : D). (state d).honest) (sym is) h));
 }
 
 map-turned : {X Y : Type 0} (f : X → Y) (xs : List X) → reverse (map f (reverse xs)) ≡ map f xs
@@ -60,8 +60,8 @@ body_at [] number sound within = absurd (omega arith)
 body_at (r ∷ records) zero sound within = (r, sound.0, refl)
 body_at (r ∷ records) (suc number) sound within = body_at records number sound.1 (omega arith)
 
-none_bad : (bodies : List (List ℕ)) (records : List Record) (at : ℕ) → AreRecords bodies records → IsFirstBadBody bodies at → ⊥
-none_bad bodies records at are bad =
+none_bad : (start : ℕ) (bodies : List (List ℕ)) (records : List Record) (at : ℕ) → AreRecords bodies records → IsFirstBadBody start bodies at → ⊥
+none_bad start bodies records at are bad =
     let there = body_at records bad.number are.sound (subst (λ (l : List (List ℕ)). bad.number < length l) are.bodies_are bad.within) in
     bad.bad there.0 (record { may = there.1; spelled = ap (λ (l : List (List ℕ)). get_or l bad.number []) are.bodies_are ∙ there.2 })
 
@@ -101,14 +101,14 @@ module _ {D : Type 0} (state : D → DiskState) (faults : D → ℕ) (redos : Li
   }
 
   -- one whose node was
-  node_stands : (redo : RedoState D) (n : NodeState D) → WasStarted state faults redo n → ClosesSo state n → StillStands state faults redo n.disk
-  node_stands redo n was closes = record {
+  node_stands : (redo : RedoState D) (n : NodeState D) → WasStarted state faults redo n → StillStands state faults redo n.disk
+  node_stands redo n was = record {
     honest = was.honest;
     later = was.later;
     stands = λ h.
         subst (λ (l : List (List ℕ)). StandsFor (state n.disk) redo.node redo.nodes l) (sym was.records.bodies_are)
         (subst (λ (k : ℕ). StandsFor (state n.disk) redo.node k (bodies_of n.records)) was.nodes_are
-        (subst (λ (k : ℕ). StandsFor (state n.disk) k n.nodes (bodies_of n.records)) was.node (closes.up was.up (was.honest h))));
+        (subst (λ (k : ℕ). StandsFor (state n.disk) k n.nodes (bodies_of n.records)) was.node (was.stands (was.honest h))));
   }
 
   module _ (nodes : List (NodeState D)) (redo : RedoState D) (failed : D) (disks : List D) (cause : StartCause) (may : MayAllBeStarted state redos) (are : AreStarted state faults redos nodes) (close : AllCloseSo state nodes)
@@ -121,7 +121,7 @@ module _ {D : Type 0} (state : D → DiskState) (faults : D → ℕ) (redos : Li
         ⊎ ((j : ℕ) × (k ≡ length (map (λ (n : NodeState D). n.disk) nodes) + j) × (slice_get (failed ∷ map (λ (x : RedoState D). x.disk) (drop (length nodes + 1) redos)) j ≡ Some d)) → StillStands state faults r d
     still_at k r d was (inl front) =
         let there = map_at (λ (n : NodeState D). n.disk) nodes k d front.1 in
-        subst (λ (x : D). StillStands state faults r x) there.2 (node_stands r there.0 (are.each k r there.0 was there.1) (all_at (ClosesSo state) nodes k there.0 close there.1))
+        subst (λ (x : D). StillStands state faults r x) there.2 (node_stands r there.0 (are.each k r there.0 was there.1))
     still_at k r d was (inr (zero, place, there)) =
         let here : k ≡ length nodes = omega (arith, place, count) in
         let same = one_at redos (length nodes) redo r at (subst (λ (j : ℕ). slice_get redos j ≡ Some r) here was) in
@@ -136,12 +136,12 @@ module _ {D : Type 0} (state : D → DiskState) (faults : D → ℕ) (redos : Li
         ∙ ap (λ (n : ℕ). slice_get (map (λ (n : NodeState D). n.disk) nodes ++ failed ∷ map (λ (r : RedoState D). r.disk) (drop (length nodes + 1) redos)) n) (sym count)
         ∙ seam (map (λ (n : NodeState D). n.disk) nodes) failed (map (λ (r : RedoState D). r.disk) (drop (length nodes + 1) redos))
 
-    due_at : (cause' : StartCause) → (cause' ≡ starts.Fault → Rose (faults redo.disk) (faults failed)) → ((place : ℕ) → cause' ≡ starts.Damaged place → IsFirstBadBody redo.bodies place) → IsDueAtStart faults redos disks (due_of_starting (length nodes) cause')
+    due_at : (cause' : StartCause) → (cause' ≡ starts.Fault → Rose (faults redo.disk) (faults failed)) → ((place : ℕ) → cause' ≡ starts.Damaged place → IsFirstBadBody redo.start redo.bodies place) → IsDueAtStart faults redos disks (due_of_starting (length nodes) cause')
     due_at starts.Fault rose bad = record { redo = redo; disk = failed; was = at; is = failed_at; rose = rose refl }
-    due_at (starts.Damaged place) rose bad = absurd (none_bad redo.bodies (may (length nodes) redo at).list place (may (length nodes) redo at).records (bad place refl))
+    due_at (starts.Damaged place) rose bad = absurd (none_bad redo.start redo.bodies (may (length nodes) redo at).list place (may (length nodes) redo at).records (bad place refl))
     due_at starts.NoMemory rose bad = tt
 
-    pub werent_started : (cause ≡ starts.Fault → Rose (faults redo.disk) (faults failed)) → ((place : ℕ) → cause ≡ starts.Damaged place → IsFirstBadBody redo.bodies place) → WerentStarted state faults redos disks (due_of_starting (length nodes) cause)
+    pub werent_started : (cause ≡ starts.Fault → Rose (faults redo.disk) (faults failed)) → ((place : ℕ) → cause ≡ starts.Damaged place → IsFirstBadBody redo.start redo.bodies place) → WerentStarted state faults redos disks (due_of_starting (length nodes) cause)
     werent_started rose bad = record {
       count =
           let low = within redos (length nodes) redo at in

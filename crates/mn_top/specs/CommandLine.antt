@@ -72,7 +72,8 @@ is_option (b ∷ bs) = b == 45
 abbrev pub AllPlain : List Text → Type 0
 AllPlain words = list_any is_option words ≡ false
 
--- a number of 64 bits, where a word stands
-abbrev pub MayBeNumber : Option Text → Type 0
-MayBeNumber None = ⊤
-MayBeNumber (Some word) = (n : ℕ) × (n < 2 ^ 64) × (word ≡ decimal n)
+-- the number of 64 bits that a word spells, where a word stands
+abbrev pub ReadsAs : Option Text → Option ℕ → Type 0
+ReadsAs None None = ⊤
+ReadsAs (Some word) (Some n) = (n < 2 ^ 64) × (word ≡ decimal n)
+ReadsAs _ _ = ⊥

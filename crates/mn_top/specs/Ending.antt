@@ -18,6 +18,7 @@ use Rattle.mn_runs.specs.Sound.{AreSound, opened_memory}
 use Rattle.mn_law.specs.Opened.{HeldAreGreater}
 use Rattle.mn_runs.specs.Protocol.{base_at, start_of, start_records, entries_of}
 use Rattle.mn_law.specs.Run.{IsLogOfRun}
+use Rattle.mn_top.specs.Crashes.{AnyStopLeaves}
 use Rattle.mn_top.specs.declared.words.Command.{Command}
 use Rattle.mn_top.specs.declared.due.DamageRule.{DamageRule}
 use Rattle.mn_top.specs.declared.due.DamageRule.TheVariants.{Log, Votes, Both, Forest, Runs, Kept}
@@ -38,7 +39,8 @@ pub record Replaying (D : Type 0) : Type 0 where
 
 -- From what the disks showed, which holds a store and leaves a number for a run, these entries made
 -- one. Its clients did no more than the script asks for: what each has begun are its first
--- operations, in order. Each disk is as the entries leave it.
+-- operations, in order. Each disk is as the entries leave it, and whatever a crash leaves of the
+-- disks holds all that was replied to.
 pub record HasRun {D : Type 0} (state : D → DiskState) (faults : D → ℕ) (r : Replaying D)
     (past : List (ℕ × Entry)) : Type 0 where
   pub records : List (List Record)
@@ -51,6 +53,7 @@ pub record HasRun {D : Type 0} (state : D → DiskState) (faults : D → ℕ) (r
   pub disks : (k : ℕ) (old new : D) → slice_get r.given k ≡ Some old
       → slice_get r.left k ≡ Some new
       → IsLeft state faults (start_of records) (entries_of past) (numbered k) old new
+  pub stops : AnyStopLeaves state r.given r.left (start_of records) store (entries_of past)
 
 -- nothing was written, and no log was made
 abbrev pub IsUntouched : {D : Type 0} → (D → DiskState) → Replaying D → Type 0

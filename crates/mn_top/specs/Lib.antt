@@ -1,8 +1,10 @@
 pub mod Words
 pub mod CommandLine
 pub mod Opening
+pub mod Crashes
+pub mod Telling
 pub mod Replayed
 pub mod Ending
+pub mod Check
 pub mod Logs
-pub mod Crashes
 pub mod Program

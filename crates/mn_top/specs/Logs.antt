@@ -8,12 +8,12 @@ use Rattle.mn_forest.specs.declared.error.ForestError.{ForestError}
 use Rattle.mn_forest.specs.declared.error.ForestError.TheVariants as forest
 use Rattle.mn_flat.specs.declared.error.VoteError.{VoteError}
 use Rattle.mn_flat.specs.declared.error.VoteError.TheVariants as vote
-use Rattle.mn_hist.specs.Audit.{IsAudit}
+use Rattle.mn_hist.specs.Audit.{versions_told}
 use Rattle.mn_io.specs.DiskModel.{DiskState}
 use Rattle.mn_io.specs.Faults.{Rose}
 use Rattle.mn_mini.specs.declared.record.Record.{Record}
-use Rattle.mn_node.specs.Node.{StandsWithOrWithout}
 use Rattle.mn_node.specs.State.{AreRecords, HoldsPartsApart, NodeState, StandsForRecords}
+use Rattle.mn_node.specs.State.{StandsUpToAll, StandsUpToWithOrWithout}
 use Rattle.mn_node.specs.declared.start.StartCause.{StartCause}
 use Rattle.mn_node.specs.declared.start.StartCause.TheVariants as starts
 use Rattle.mn_redo.specs.Grammar.{IsDamaged, Stands}
@@ -21,16 +21,19 @@ use Rattle.mn_redo.specs.Redo.{RedoState, StandsFor}
 use Rattle.mn_redo.specs.declared.open.OpenCause.{OpenCause}
 use Rattle.mn_redo.specs.declared.open.OpenCause.TheVariants as opens
 use Rattle.mn_redo.specs.declared.redo.Phase.TheVariants.{Closing}
-use Rattle.mn_report.specs.declared.report.Report.{Report}
-use Rattle.mn_report.specs.Report.{report_text}
+use Rattle.mn_report.specs.Report.{check_text}
 use Rattle.mn_script.specs.Script.{Script}
 use Rattle.mn_runs.specs.declared.entry.Entry.{Entry}
 use Rattle.mn_runs.specs.Protocol.{Start, run_number, start_of}
-use Rattle.mn_top.specs.declared.due.DamageRule.TheVariants.{Both, Forest, Kept, Log, Votes}
+use Rattle.mn_top.specs.declared.due.DamageRule.TheVariants.{Both, Forest, Kept, Log, Runs, Votes}
 use Rattle.mn_top.specs.declared.due.Due.{Due}
 use Rattle.mn_top.specs.declared.due.Due.TheVariants as dues
+use Rattle.mn_top.specs.Check.{HasRisen}
 use Rattle.mn_top.specs.Ending.{Misfits}
-use Rattle.mn_top.specs.Opening.{HasNumber, IsBadLog, IsOpenedAs, IsUnwritten}
+use Rattle.mn_top.specs.Opening.{AreUnwritten, HasNumber, IsBadLog, IsFirstBadLog, IsOpenedAs}
+use Rattle.mn_top.specs.Opening.{IsUnwritten, WereRead}
+use Rattle.mn_top.specs.Telling.{Tells}
+use Rattle.mn_top.specs.declared.words.Command.{Command}
 
 -- One log
 
@@ -96,11 +99,41 @@ pub record AllRead {D : Type 0} (state : D → DiskState) (faults : D → ℕ) (
   pub are : AreRead state faults given redos records
   pub whole : length redos ≡ length given
 
+-- what is due where the logs of the disks weren't all read: the first that wasn't is told
+abbrev pub IsDueAtOpening : {D : Type 0} → (D → DiskState) → (D → ℕ) → List D → List D → Due
+    → Type 0
+IsDueAtOpening state faults given left (dues.DiskFault n) =
+    HasRisen faults given left n × WereRead state given n
+IsDueAtOpening state faults given left (dues.Damaged n place Log) =
+    IsFirstBadLog state given n place
+IsDueAtOpening state faults given left dues.NoMemory = ⊤
+IsDueAtOpening state faults given left due = ⊥
+
+-- they weren't, nothing was written, and this is due
+pub record WerentRead {D : Type 0} (state : D → DiskState) (faults : D → ℕ) (given left : List D)
+    (due : Due) : Type 0 where
+  pub unwritten : AreUnwritten state given left
+  pub due_is : IsDueAtOpening state faults given left due
+
 -- the records make this store, and a run on them has this number
 pub record MakeStart (records : List (List Record)) (store : Store) (run : ℕ) : Type 0 where
   pub opened : IsOpenedAs (start_of records) store
   pub numbered_so : HasNumber (start_of records)
   pub run_is : run ≡ run_number (start_of records)
+
+-- why they hold no store
+abbrev pub HoldNone : List (List Record) → Due → Type 0
+HoldNone records (dues.Damaged n place Runs) = ⊥
+HoldNone records (dues.Damaged n place rule) = Misfits records n place rule
+HoldNone records dues.NoMemory = ⊤
+HoldNone records due = ⊥
+
+-- what a check tells of them: the versions of their store, or why they hold none
+abbrev pub AreTold : List (List Record) → Due → Type 0
+AreTold records (dues.Report text) =
+    (store : Store) × IsOpenedAs (start_of records) store
+    × (text ≡ check_text (versions_told store))
+AreTold records due = HoldNone records due
 
 -- why they make none
 abbrev pub AreJudged : List (List Record) → Due → Type 0
@@ -142,6 +175,7 @@ pub record WasStarted {D : Type 0} (state : D → DiskState) (faults : D → ℕ
   pub node : n.node ≡ redo.node
   pub nodes_are : n.nodes ≡ redo.nodes
   pub records : AreRecords redo.bodies n.records
+  pub stands : StandsForRecords (state n.disk) n.node n.nodes n.records
   pub honest : (state redo.disk).honest → (state n.disk).honest
   pub later : faults redo.disk ≤ faults n.disk
 
@@ -185,9 +219,9 @@ pub record WerentStarted {D : Type 0} (state : D → DiskState) (faults : D → 
 
 -- what the disk of a node stands for
 pub record ClosesSo {D : Type 0} (state : D → DiskState) (n : NodeState D) : Type 0 where
-  pub up : n.down ≡ false → StandsForRecords (state n.disk) n.node n.nodes n.records
+  pub up : n.down ≡ false → StandsUpToAll (state n.disk) n.node n.nodes n.records
   pub stands : (state n.disk).honest
-      → StandsWithOrWithout (state n.disk) n.node n.nodes n.records n.pending
+      → StandsUpToWithOrWithout (state n.disk) n.node n.nodes n.records n.pending
 
 -- those of these nodes
 abbrev pub AllCloseSo : {D : Type 0} → (D → DiskState) → List (NodeState D) → Type 0
@@ -215,11 +249,11 @@ pub record AreReady {D : Type 0} (state : D → DiskState) (faults : D → ℕ) 
 -- Runs
 
 -- what is due of a run's log
-abbrev pub IsToldOf : Start → Store → Script → List Entry → Due → Type 0
-IsToldOf from store script past (dues.Report text) =
-    (report : Report) × IsAudit from store script past report × (text ≡ report_text report)
-IsToldOf from store script past dues.NoMemory = ⊤
-IsToldOf from store script past due = ⊥
+abbrev pub IsToldOf : Command → Start → Store → Script → List Entry → Due → Type 0
+IsToldOf command from store script past (dues.Report text) =
+    Tells command from store script past text
+IsToldOf command from store script past dues.NoMemory = ⊤
+IsToldOf command from store script past due = ⊥
 
 -- what is due of a run that failed
 abbrev pub due_of_failing : RunCause → Due

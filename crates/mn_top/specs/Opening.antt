@@ -7,7 +7,7 @@ use Rattle.mn_mini.specs.declared.record.Record.{Record}
 use Rattle.mn_mini.specs.RecordGrammar.{IsRecord}
 use Rattle.mn_node.specs.Node.{bodies_of}
 use Rattle.mn_node.specs.State.{AreRecords, IsFirstBadBody}
-use Rattle.mn_redo.specs.Grammar.{AreInFront, IsDamaged, Stands}
+use Rattle.mn_redo.specs.Grammar.{AreInFront, IsDamaged, IsLogAt, Stands}
 use Rattle.mn_law.specs.Opened.{IsOpened}
 use Rattle.mn_runs.specs.Protocol.{Start, base_at, run_number, start_nodes, start_records}
 
@@ -35,28 +35,33 @@ HasNumber start = run_number start < 4294967295
 
 -- Damage
 
--- the bytes are damaged at this place, and these bodies stand in front of it
-abbrev pub IsDamagedBehind : ℕ → ℕ → List ℕ → ℕ → List (List ℕ) → Type 0
-IsDamagedBehind nodes k content at bodies =
-    IsDamaged k nodes content at × AreInFront k nodes content at bodies
+-- the bytes are damaged at this place, and these bodies, the first of which begins at `start`, stand
+-- in front of it
+abbrev pub IsDamagedBehind : ℕ → ℕ → List ℕ → ℕ → ℕ → List (List ℕ) → Type 0
+IsDamagedBehind nodes k content at start bodies =
+    IsDamaged k nodes content at × AreInFront k nodes content at start bodies
 
--- the whole log is these bodies, or they stand in front of its damage
-abbrev pub Begins : ℕ → ℕ → List ℕ → List (List ℕ) → Type 0
-Begins nodes k content bodies =
-    Stands k nodes content bodies ⊎ ((at : ℕ) × IsDamagedBehind nodes k content at bodies)
+-- the whole log is these bodies, or they stand in front of its damage; it begins at `start`
+abbrev pub Begins : ℕ → ℕ → List ℕ → ℕ → List (List ℕ) → Type 0
+Begins nodes k content start bodies =
+    ((number : ℕ) × IsLogAt k nodes content number start bodies)
+    ⊎ ((at : ℕ) × IsDamagedBehind nodes k content at start bodies)
 
 -- the bytes are damaged at this place, behind bodies that are all records
 abbrev pub IsDamagedFirst : ℕ → ℕ → List ℕ → ℕ → Type 0
 IsDamagedFirst nodes k content at =
-    (bodies : List (List ℕ)) × IsDamagedBehind nodes k content at bodies
-    × ((list : List Record) × AreRecords bodies list)
+    (start : ℕ)
+    × ((bodies : List (List ℕ)) × IsDamagedBehind nodes k content at start bodies
+    × ((list : List Record) × AreRecords bodies list))
 
 -- where the log of an honest disk is first outside its grammar: at the place of its damage, or at
 -- the gate of the first body that is no record
 abbrev pub IsBadLog : ℕ → ℕ → DiskState → ℕ → Type 0
 IsBadLog nodes k disk at =
     disk.honest → IsDamagedFirst nodes k disk.content at
-    ⊎ ((bodies : List (List ℕ)) × Begins nodes k disk.content bodies × IsFirstBadBody bodies at)
+    ⊎ ((start : ℕ)
+    × ((bodies : List (List ℕ)) × Begins nodes k disk.content start bodies
+    × IsFirstBadBody start bodies at))
 
 -- the disks before this one were read: each reads as records
 abbrev pub WereRead : {D : Type 0} → (D → DiskState) → List D → ℕ → Type 0

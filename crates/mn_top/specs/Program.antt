@@ -1,9 +1,10 @@
 -- What the program answers, and when.
 use Rattle.std.specs.Prelude.{◌≡◌, ◌≢◌, ◌⊎◌, ◌++◌, ◌∷◌, [], false, codes, ℕ, List, Option, Ok}
-use Rattle.std.specs.Prelude.{Err, length, take, IfSome}
-use Rattle.std.specs.Io.KnownBytes.{Appends}
+use Rattle.std.specs.Prelude.{Some, None, Err, length, take, IfSome}
+use Rattle.std.specs.Io.KnownBytes.{Appends, IsAtEnd}
 use Rattle.mn_forest.specs.declared.error.Rule.{Rule}
 use Rattle.mn_forest.specs.declared.error.Rule.TheVariants as rules
+use Rattle.mn_gen.specs.Generated.{generated}
 use Rattle.mn_io.specs.DiskModel.{DiskState}
 use Rattle.mn_report.specs.Spelling.{spaced_number}
 use Rattle.mn_script.specs.declared.error.ScriptError.TheVariants.{Refused as WrongText}
@@ -13,11 +14,14 @@ use Rattle.mn_top.specs.declared.due.DamageRule.{DamageRule}
 use Rattle.mn_top.specs.declared.due.DamageRule.TheVariants.{Log, Votes, Both, Forest, Runs, Kept}
 use Rattle.mn_top.specs.declared.due.Due.{Due}
 use Rattle.mn_top.specs.declared.due.Due.TheVariants.{Report, Usage, Refused, ReadFault, DiskFault}
-use Rattle.mn_top.specs.declared.due.Due.TheVariants.{Damaged, NoMemory, Disks, Unbuilt}
+use Rattle.mn_top.specs.declared.due.Due.TheVariants.{Damaged, NoMemory, Disks}
+use Rattle.mn_top.specs.declared.program.Task.{Task}
+use Rattle.mn_top.specs.declared.program.Task.TheVariants.{Play, Check}
 use Rattle.mn_top.specs.declared.words.Command.{Command}
 use Rattle.mn_top.specs.Ending.{ComesTo}
 use Rattle.mn_runs.specs.declared.entry.Entry.{Entry}
-use Rattle.mn_top.specs.Words.{Asked, Asks, AskFor, AskNothing, AskScript, is_there}
+use Rattle.mn_top.specs.Check.{MeetsCheck}
+use Rattle.mn_top.specs.Words.{AskCheck, AskFor, AskNodes, AskNothing, AskText}
 
 -- What is written
 
@@ -53,7 +57,6 @@ text_of (Damaged node place rule) =
     line (codes "damaged" ++ (spaced_number node ++ (spaced_number place ++ rule_name rule)))
 text_of NoMemory = line (codes "no memory")
 text_of (Disks given wanted) = line (codes "disks" ++ (spaced_number given ++ spaced_number wanted))
-text_of Unbuilt = line (codes "unbuilt")
 
 abbrev pub status_of : Due → ℕ
 status_of (Report report) = 0
@@ -64,7 +67,6 @@ status_of (DiskFault node) = 5
 status_of (Damaged node place rule) = 6
 status_of NoMemory = 7
 status_of (Disks given wanted) = 8
-status_of Unbuilt = 9
 
 -- a line is due, and no report
 abbrev pub IsLine : Due → Type 0
@@ -88,42 +90,54 @@ IsTextOf known script = IfSome known (λ text. script_of text ≡ Ok script)
 -- is known, whether the source failed, and how many disks were given
 abbrev pub IsDueBefore : List (List ℕ) → Option (List ℕ) → Type 0 → ℕ → Due → Type 0
 IsDueBefore words known failed given Usage = AskNothing words
-IsDueBefore words known failed given ReadFault = AskScript words given × failed
+IsDueBefore words known failed given ReadFault = AskText words given × failed
 IsDueBefore words known failed given (Refused row column) =
-    AskScript words given × IfSome known (λ text. script_of text ≡ Err (WrongText row column))
+    AskText words given × IfSome known (λ text. script_of text ≡ Err (WrongText row column))
 IsDueBefore words known failed given (Disks told wanted) =
     (told ≡ given) × (given ≢ wanted)
-    × (AskScript words wanted ⊎ (AskScript words given
+    × (AskNodes words wanted ⊎ (AskText words given
     × ((script : Script) × IsTextOf known script × (script.nodes ≡ wanted))))
-IsDueBefore words known failed given Unbuilt =
-    (asked : Asked) × Asks words asked × (is_there asked.command asked.folder ≡ false)
 IsDueBefore words known failed given NoMemory = Unit {0}
 IsDueBefore words known failed given due = ⊥
 
--- the words ask to play a script of as many nodes as there are disks by this command, and the
--- source held it and no more
-pub record IsCalled (words : List (List ℕ)) (known : Option (List ℕ)) (ended : Type 0) (given : ℕ)
+-- the script that is asked for, of so many nodes: the source held its text, and was read to its
+-- end; or it is the one of the number, and nothing was read
+abbrev pub IsAsked : Option ℕ → Option (List ℕ) → Option (List ℕ) → ℕ → Script → Type 0
+IsAsked None known unread given script =
+    IsTextOf known script × (script.nodes ≡ given) × IsAtEnd unread
+IsAsked (Some number) known unread given script =
+    (script ≡ generated given number) × (unread ≡ known)
+
+-- the words ask to play this script, of as many nodes as there are disks, by this command
+pub record IsCalled (words : List (List ℕ)) (known unread : Option (List ℕ)) (given : ℕ)
     (command : Command) (script : Script) : Type 0 where
-  pub asked : AskFor words command given
-  pub spelled : IsTextOf known script
-  pub nodes : script.nodes ≡ given
-  pub whole : ended
+  pub number : Option ℕ
+  pub asked : AskFor words command given number
+  pub made_or_read : IsAsked number known unread given script
+
+-- what is to be done: to play the script that the words ask for, or to check the disks, for which
+-- nothing was read
+abbrev pub IsTask : List (List ℕ) → Option (List ℕ) → Option (List ℕ) → ℕ → Task → Type 0
+IsTask words known unread given (Play command script) =
+    IsCalled words known unread given command script
+IsTask words known unread given Check = AskCheck words given × (unread ≡ known)
 
 -- the script was played on the disks that were given, and came to this
 pub record Meets {D : Type 0} (state : D → DiskState) (faults : D → ℕ) (words : List (List ℕ))
-    (known : Option (List ℕ)) (ended : Type 0) (given left : List D) (log : List (ℕ × Entry))
+    (known unread : Option (List ℕ)) (given left : List D) (log : List (ℕ × Entry))
     (due : Due) : Type 0 where
   pub command : Command
   pub script : Script
-  pub called : IsCalled words known ended (length given) command script
+  pub called : IsCalled words known unread (length given) command script
   pub count : length left ≡ length given
   pub so : ComesTo state faults
       (record { command = command; script = script; given = given; left = left; log = log }) due
 
--- What may be due: without the disks, which are then handed back as they were; or of a script that
--- is played on them
+-- What may be due: without the disks, which are then handed back as they were; of a script that is
+-- played on them; or of a check of them
 abbrev pub IsDue : {D : Type 0} → (D → DiskState) → (D → ℕ) → List (List ℕ) → Option (List ℕ)
-    → Type 0 → Type 0 → List D → List D → List (ℕ × Entry) → Due → Type 0
-IsDue state faults words known failed ended given left log due =
+    → Type 0 → Option (List ℕ) → List D → List D → List (ℕ × Entry) → Due → Type 0
+IsDue state faults words known failed unread given left log due =
     (IsDueBefore words known failed (length given) due × (left ≡ given) × (log ≡ []))
-    ⊎ Meets state faults words known ended given left log due
+    ⊎ (Meets state faults words known unread given left log due
+    ⊎ MeetsCheck state faults words known unread given left log due)

@@ -5,7 +5,7 @@ ghost use Rattle.std.specs.Prelude.{false, map, option_map, string_bytes};
 ghost use Rattle.std.specs.List.{list_any};
 ghost use Rattle.clap.specs.Words.{app_of};
 ghost use Rattle.clap.specs.declared.builder.Command.TheViews.{out-Command};
-ghost use Rattle.mn_top.specs.CommandLine.{AllPlain, MayBeNumber, Split, checks, is_option, makes};
+ghost use Rattle.mn_top.specs.CommandLine.{AllPlain, ReadsAs, Split, checks, is_option, makes};
 ghost use Rattle.mn_top.specs.CommandLine.{minuet, plays};
 ghost use Rattle.mn_top.specs.Words.{AskNothing, Asked, Asks, IsSaid, MayBeFolder, Text};
 ghost use Rattle.mn_top.specs.declared.words.Command.{Command};
@@ -142,12 +142,17 @@ fn split<'a>(alloc: Global, words: &'a [String]) -> Result<Option<Parts<'a>>, Al
 }
 
 /// A number, where a word stands.
-fn may_be_number(word: Option<&str>) -> bool
-    ensures { IsTrue result ↔ MayBeNumber (option_map (λ w. w.now) word.entry) }
+fn may_be_number(word: Option<&str>) -> Option<Option<u64>>
+    ensures { MatchOption result ((number : Option ℕ)
+        → ReadsAs (option_map (λ w. w.now) word.entry) number → ⊥)
+        (ReadsAs (option_map (λ w. w.now) word.entry)) }
 {
     match word {
-        Some(word) => number_in(word).is_some(),
-        None => true,
+        Some(word) => {
+            let number = number_in(word)?;
+            Some(Some(number))
+        }
+        None => Some(None),
     }
 }
 
@@ -173,15 +178,16 @@ pub fn read_words(alloc: Global, words: &Words) -> Result<Option<CommandLine<'_>
     let Some(nodes) = nodes_in(parts.nodes) else {
         return Ok(None);
     };
-    if !may_be_number(parts.number) {
+    let Some(number) = may_be_number(parts.number) else {
         return Ok(None);
-    }
+    };
     if !may_be_folder(parts.folder) {
         return Ok(None);
     }
     Ok(Some(CommandLine {
         command: parts.command,
         nodes,
+        number,
         folder: parts.folder,
     }))
 }

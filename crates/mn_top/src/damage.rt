@@ -23,8 +23,8 @@ use std::alloc::Global;
 /// The place of the gate of the first of these bodies that is no record.
 fn first_bad(alloc: Global, front: &Front) -> Result<Option<u64>, NoMemory>
     ensures { IfOk result (λ found.
-        MatchOption found ((records : List Record) × AreRecords front.now records)
-        (IsFirstBadBody front.now)) }
+        MatchOption found ((records : List Record) × AreRecords front.now.bodies records)
+        (IsFirstBadBody front.now.start front.now.bodies)) }
 {
     for number in 0..front.count() {
         match Record::read(alloc, front.body(number)) {

@@ -91,7 +91,6 @@ impl Due {
             Due::Disks { given, wanted } => {
                 with_numbers(alloc, b"disks", *given, *wanted as u64)
             }
-            Due::Unbuilt => b"unbuilt".to_vec(alloc),
         }
     }
 
@@ -118,7 +117,6 @@ impl Due {
             Due::Damaged { .. } => 6,
             Due::NoMemory => 7,
             Due::Disks { .. } => 8,
-            Due::Unbuilt => 9,
         }
     }
 }

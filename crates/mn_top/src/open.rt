@@ -1,15 +1,12 @@
 //! The opening of the disks: their logs, and the store that the records of all of them make.
-ghost use Rattle.std.specs.Prelude.{◌≡◌, ◌≤◌, ◌+◌, ◌++◌, [], ℕ, List, IfOk, IfErr, length, map};
+ghost use Rattle.std.specs.Prelude.{◌≡◌, ◌≤◌, ◌+◌, ◌++◌, [], IfOk, IfErr, length, map};
 ghost use Rattle.std.specs.Prelude.{nat_eq, reverse, vec_capacity};
 ghost use Rattle.std.specs.List.{flat_map, list_all};
 ghost use Rattle.mn_base.specs.Store.{Store, empty_store};
 ghost use Rattle.mn_mini.specs.Node.{greatest_run, record_run};
-ghost use Rattle.mn_script.specs.Script.{Script};
 ghost use Rattle.mn_top.specs.declared.due.Due.TheVariants as dues;
-ghost use Rattle.mn_top.specs.declared.words.Command.{Command};
-ghost use Rattle.mn_top.specs.Ending.{ComesTo};
-ghost use Rattle.mn_top.specs.Logs.{AllRead, AreJudged, MakeStart, WasRead, WasRefused};
-ghost use Rattle.mn_top.specs.Logs.{WasntRead};
+ghost use Rattle.mn_top.specs.Logs.{AllRead, AreJudged, HoldNone, MakeStart, WasRead, WasRefused};
+ghost use Rattle.mn_top.specs.Logs.{WasntRead, WerentRead};
 ghost use Rattle.mn_top.specs.Opening.{IsOpenedAs};
 ghost use Rattle.mn_runs.specs.Protocol.{start_of};
 
@@ -22,7 +19,7 @@ use mn_io::Disk;
 use mn_mini::{Record, Records};
 use mn_node::records_of;
 use mn_plain::Store;
-use mn_redo::{OpenFailed, Redo};
+use mn_redo::{OpenFailed, Redo, one_list};
 use std::alloc::Global;
 
 /// The greatest run after which there is a number for a new one.
@@ -73,6 +70,7 @@ fn open_one<D: Disk>(alloc: Global, disk: D, node: NodeNo, nodes: u8) -> Result<
     ensures bad { IfErr result (λ bad.
         WasntRead D.state D.faults nodes node.0 disk bad.disk bad.due) }
 {
+    one_list();
     let redo = match Redo::open(alloc, disk, node, nodes) {
         Ok(redo) => redo,
         Err(failed) => return Err(refused(alloc, failed, node, nodes)),
@@ -124,14 +122,8 @@ pub fn open_all<D: Disk>(alloc: Global, disks: Vec<D>) -> Result<Logs<D>, NotOpe
     ensures room { IfOk result (λ logs. (logs.room.items ≡ [])
         × (length disks.items ≤ vec_capacity logs.room)) }
     ensures count { IfErr result (λ failed. length failed.disks.items ≡ length disks.items) }
-    ensures due { (command : Command) (script : Script) → IfErr result (λ failed.
-        ComesTo D.state D.faults (record {
-          command = command;
-          script = script;
-          given = disks.items;
-          left = failed.disks.items;
-          log = [];
-        }) failed.due) }
+    ensures failed { IfErr result (λ failed.
+        WerentRead D.state D.faults disks.items failed.disks.items failed.due) }
 {
     let nodes = disks.len() as u8;
     let Ok((mut redos, mut records)) = room_for(alloc, disks.len()) else {
@@ -230,11 +222,11 @@ fn fresh_store(alloc: Global) -> Result<Store, Due>
 
 /// The store that the records of all nodes make. That of nodes without records is known, and its
 /// memory isn't made.
-fn store_of(alloc: Global, records: &[Records]) -> Result<Store, Due>
+pub fn store_of(alloc: Global, records: &[Records]) -> Result<Store, Due>
     requires some { 1 ≤ length records.now }
     requires few { length records.now ≤ 8 }
     ensures opened { IfOk result (IsOpenedAs (start_of records.now)) }
-    ensures refused { IfErr result (AreJudged records.now) }
+    ensures refused { IfErr result (HoldNone records.now) }
 {
     if have_none(records) {
         return fresh_store(alloc);

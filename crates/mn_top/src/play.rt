@@ -11,27 +11,27 @@ ghost use Rattle.mn_top.specs.Logs.{AllCloseSo, AllRead, AreReady, AreStarted, I
 ghost use Rattle.mn_top.specs.Logs.{MayAllBeStarted, WerentStarted, due_of_failing};
 ghost use Rattle.mn_top.specs.Opening.{Show};
 ghost use Rattle.mn_top.specs.Replayed.{FollowsBy, FollowsToClosingBy};
-ghost use Rattle.mn_top.specs.declared.due.Due.TheVariants.{Report};
 ghost use Rattle.mn_serial.specs.Meaning.{OpenedRun};
-ghost use Rattle.mn_runs.specs.Protocol.{Start, run_number, entries_of};
+ghost use Rattle.mn_runs.specs.Protocol.{AreFree, Start, run_number, entries_of};
 
 use crate::damage::due_of_start;
 use crate::due::{DamageRule, Due};
 use crate::open::{Judged, Logs, NotOpened, close_all, judge, open_all};
+use crate::telling::text_on;
 use crate::words::Command;
-use mn_base::{Bytes, Gate, NoMemory, NodeNo};
+use mn_base::{Gate, NodeNo};
 use mn_causes::undisturbed_is_answered;
 use mn_cell::{RunCause, RunFailed, Trace};
 use mn_cluster::run_threads;
-use mn_hist::audit;
 use mn_io::Disk;
+use mn_law::runs_follow_protocol;
 use mn_node::{Node, StartFailed};
 use mn_plain::Store;
 use mn_redo::Redo;
 use mn_replay::replay;
-use mn_report::write_report;
 use mn_runs::Log;
 use mn_script::Script;
+use mn_serial::{runs_are_one_history, stops_leave_opened};
 use std::alloc::Global;
 use std::sync::Wait;
 use std::thread::Threads;
@@ -149,24 +149,14 @@ fn start_all<D: Disk>(
     Ok(Started { nodes, room })
 }
 
-/// The report on a log.
-fn text_of(alloc: Global, start: &Store, log: &Log, script: &Script) -> Result<Bytes, NoMemory>
-    requires { (from : Start) × OpenedRun from start.now (entries_of log.now) }
-    ensures { (from : Start) → OpenedRun from start.now (entries_of log.now)
-        → IfOk result (λ text. IsToldOf from start.now script.now (entries_of log.now)
-        (Report text)) }
-{
-    let report = audit(alloc, start, log, script)?;
-    write_report(alloc, &report)
-}
-
 /// What is due after a run.
-fn due_of_trace(alloc: Global, start: &Store, log: &Log, script: &Script) -> Due
+fn due_of_trace(alloc: Global, command: Command, start: &Store, log: &Log, script: &Script) -> Due
     requires { (from : Start) × OpenedRun from start.now (entries_of log.now) }
     ensures { (from : Start) → OpenedRun from start.now (entries_of log.now)
-        → IsToldOf from start.now script.now (entries_of log.now) result }
+        → AreFree from (entries_of log.now)
+        → IsToldOf command from start.now script.now (entries_of log.now) result }
 {
-    match text_of(alloc, start, log, script) {
+    match text_on(alloc, command, start, log, script) {
         Ok(text) => Due::Report { text },
         Err(_) => Due::NoMemory,
     }
@@ -192,7 +182,7 @@ fn due_of_cause(cause: RunCause) -> Due
     }
 }
 
-/// Runs the script on threads, or replays it, as the command says.
+/// Runs the script on threads, as `run` and `gen` do, or replays it.
 fn run_script<T: Threads + Wait + Sync, D: Disk + Send, G: Gate + Sync>(
     rt: &T,
     alloc: Global,
@@ -214,8 +204,8 @@ fn run_script<T: Threads + Wait + Sync, D: Disk + Send, G: Gate + Sync>(
         → FollowsToClosingBy command (start_on nodes.items) script.now (entries_of failed.log)) }
 {
     match command {
-        Command::Run => run_threads(rt, alloc, gate, nodes, script, run),
-        _ => replay(alloc, nodes, script, run),
+        Command::Run | Command::Gen => run_threads(rt, alloc, gate, nodes, script, run),
+        Command::Replay | Command::Check => replay(alloc, nodes, script, run),
     }
 }
 
@@ -247,10 +237,13 @@ fn play_on<T: Threads + Wait + Sync, D: Disk + Send, G: Gate + Sync>(
         }) result.due }
 {
     undisturbed_is_answered();
+    runs_follow_protocol();
+    stops_leave_opened();
+    runs_are_one_history();
     let Started { nodes, room } = started;
     match run_script(rt, alloc, gate, nodes, command, script, judged.run) {
         Ok(Trace { nodes, log }) => Ended {
-            due: due_of_trace(alloc, &judged.store, &log, script),
+            due: due_of_trace(alloc, command, &judged.store, &log, script),
             disks: close_nodes(nodes, room),
             log,
         },
@@ -289,6 +282,9 @@ fn on_logs<T: Threads + Wait + Sync, D: Disk + Send, G: Gate + Sync>(
           log = result.log;
         }) result.due }
 {
+    runs_follow_protocol();
+    stops_leave_opened();
+    runs_are_one_history();
     let Logs {
         redos,
         records,

@@ -4,20 +4,20 @@ ghost use Rattle.mn_io.specs.Faults.{Rose};
 ghost use Rattle.mn_script.specs.Reading.{script_of as read_as};
 ghost use Rattle.mn_top.specs.declared.due.Due.{Due};
 ghost use Rattle.mn_top.specs.Crashes.{StayOpenable};
-ghost use Rattle.mn_top.specs.Words.{AskScript};
-ghost use Rattle.mn_top.specs.Program.{Finishes, IsCalled, IsDue, IsDueBefore};
+ghost use Rattle.mn_top.specs.Words.{AskText};
+ghost use Rattle.mn_top.specs.Program.{Finishes, IsDue, IsDueBefore, IsTask};
 
+use crate::check::check_disks;
 use crate::clap_words::read_words;
 use crate::due::Due;
 use crate::finish::finish;
 use crate::outcome::Outcome;
 use crate::play::{Ended, play, without_log};
-use crate::words::{Command, Words};
+use crate::words::{Command, Words, plays_script};
 use mn_base::Gate;
+use mn_gen::gen_script;
 use mn_io::{Disk, ReadError, Sink, Source, read_all};
-use mn_law::runs_follow_protocol;
 use mn_script::{Script, ScriptError, read_script};
-use mn_serial::stops_leave_opened;
 use std::alloc::Global;
 use std::sync::Wait;
 use std::thread::Threads;
@@ -29,7 +29,7 @@ const MAX_SCRIPT: usize = 4_194_304;
 fn text_of<R: Source>(alloc: Global, source: &mut R) -> Result<mn_io::Bytes, Due>
     ensures text { IfOk result (λ text. IfSome (R.remaining source.old) (λ known. text ≡ known)) }
     ensures whole { IfOk result (λ text. IsAtEnd (R.remaining source.new)) }
-    ensures due { (words : List (List ℕ)) (given : ℕ) → AskScript words given
+    ensures due { (words : List (List ℕ)) (given : ℕ) → AskText words given
         → IfErr result (IsDueBefore words (R.remaining source.old)
         (Rose (R.faults source.old) (R.faults source.new)) given) }
 {
@@ -45,7 +45,7 @@ fn text_of<R: Source>(alloc: Global, source: &mut R) -> Result<mn_io::Bytes, Due
 fn script_of(alloc: Global, text: &[u8], given: usize) -> Result<Script, Due>
     ensures spelled { IfOk result (λ script. read_as text.now ≡ Ok script) }
     ensures nodes { IfOk result (λ script. script.nodes ≡ given) }
-    ensures due { (words : List (List ℕ)) (known : Option (List ℕ)) → AskScript words given
+    ensures due { (words : List (List ℕ)) (known : Option (List ℕ)) → AskText words given
         → IfSome known (λ told. text.now ≡ told) → IfErr result (IsDueBefore words known ⊥ given) }
 {
     let script = match read_script(alloc, text) {
@@ -62,31 +62,30 @@ fn script_of(alloc: Global, text: &[u8], given: usize) -> Result<Script, Due>
     Ok(script)
 }
 
-/// A script, and the command by which it is played.
-struct Task {
-    command: Command,
-    script: Script,
+/// What is to be done with the disks.
+pub enum Task {
+    /// A script is played by this command.
+    Play { command: Command, script: Script },
+    /// They are checked.
+    Check,
 }
 
-/// Reads the script that the words ask for, for so many disks, or tells what is due before a disk
-/// is touched.
+/// What the words ask for, of so many disks, with the script that they ask for; or what is due
+/// before a disk is touched.
 fn called<R: Source>(
     alloc: Global,
     words: &Words,
     source: &mut R,
     given: usize,
 ) -> Result<Task, Due>
-    ensures called { IfOk result (λ task. IsCalled words.now (R.remaining source.old)
-        (IsAtEnd (R.remaining source.new)) given task.command task.script) }
+    ensures called { IfOk result (IsTask words.now (R.remaining source.old)
+        (R.remaining source.new) given) }
     ensures due { IfErr result (IsDueBefore words.now (R.remaining source.old)
         (Rose (R.faults source.old) (R.faults source.new)) given) }
 {
     let Some(line) = read_words(alloc, words)? else {
         return Err(Due::Usage);
     };
-    if !line.can_be_done() {
-        return Err(Due::Unbuilt);
-    }
     if line.nodes as usize != given {
         return Err(Due::Disks {
             given: given as u64,
@@ -94,13 +93,22 @@ fn called<R: Source>(
         });
     }
     let command = line.command;
+    if !plays_script(command) {
+        return Ok(Task::Check);
+    }
+    if let Some(number) = line.number {
+        let made = gen_script(alloc, line.nodes, number)?;
+        return Ok(Task::Play {
+            command,
+            script: made,
+        });
+    }
     let text = text_of(alloc, source)?;
     let script = script_of(alloc, text.as_slice(), given)?;
-    Ok(Task { command, script })
+    Ok(Task::Play { command, script })
 }
 
-/// Opens the disks and plays the script that the words ask for, or tells what is due before a disk
-/// is touched.
+/// Opens the disks and does what the words ask for, or tells what is due before a disk is touched.
 fn ended<T: Threads + Wait + Sync, R: Source, D: Disk + Send, G: Gate + Sync>(
     rt: &T,
     alloc: Global,
@@ -111,13 +119,12 @@ fn ended<T: Threads + Wait + Sync, R: Source, D: Disk + Send, G: Gate + Sync>(
 ) -> Ended<D>
     ensures due { IsDue D.state D.faults words.now (R.remaining source.old)
         (Rose (R.faults source.old) (R.faults source.new))
-        (IsAtEnd (R.remaining source.new)) disks.items result.disks.items result.log result.due }
+        (R.remaining source.new) disks.items result.disks.items result.log result.due }
     ensures crash { StayOpenable D.state disks.items result.disks.items }
 {
-    runs_follow_protocol();
-    stops_leave_opened();
     match called(alloc, words, source, disks.len()) {
-        Ok(Task { command, script }) => play(rt, alloc, gate, disks, command, &script),
+        Ok(Task::Play { command, script }) => play(rt, alloc, gate, disks, command, &script),
+        Ok(Task::Check) => check_disks(alloc, disks),
         Err(due) => without_log(alloc, disks, due),
     }
 }
@@ -125,11 +132,14 @@ fn ended<T: Threads + Wait + Sync, R: Source, D: Disk + Send, G: Gate + Sync>(
 /// Runs the program: reads the words and the script, opens the disks, plays the script on them, and
 /// writes the report, or one line that says why there is none. `replay` plays it on one thread, in
 /// the order of its schedule. `run` plays it on threads, by the marks of its clients, whose calls
-/// pass the gate.
+/// pass the gate. `gen` makes the script from a number, plays it as `run`, and writes a summary.
+/// `check` plays none: it opens the disks, writes nothing to them, and tells the versions of their
+/// store.
 ///
 /// | Status | Written | Comes only where |
 /// |---|---|---|
-/// | 0 | the report | the script was run; the source was read to its end |
+/// | 0 | the report or summary | the script was run; the source, if read, was read to its end |
+/// | 0 | `check yes`, the versions | it is a check, and the disks hold a store of these versions |
 /// | 1 | `usage` | the words are none of the four forms |
 /// | 2 | `refused LINE COLUMN` | the source's text is no script, and there is its first fault |
 /// | 3 | `read fault` | the source failed in this call |
@@ -138,14 +148,15 @@ fn ended<T: Threads + Wait + Sync, R: Source, D: Disk + Send, G: Gate + Sync>(
 /// | 6 | `damaged NODE PLACE RULE` | the disks hold no store, by this rule |
 /// | 7 | `no memory` | there was no memory |
 /// | 8 | `disks GIVEN WANTED` | the words or the script ask for another number of disks |
-/// | 9 | `unbuilt` | the words ask for what isn't served yet |
 ///
-/// The rule `runs` of status 6 tells that no number is left for a run, and `kept` that at closing a
-/// disk had another list than its node.
+/// The rule `runs` of status 6 tells that no number is left for a run, which is no matter to a
+/// check, and `kept` that at closing a disk had another list than its node.
 ///
-/// At 1, 2, 3, 8 and 9 nothing is written to a disk, and at 6 nothing but where the rule is `kept`.
-/// There, at 5 and at 7 nothing is written, or each disk is as some run leaves it that began with
-/// what the disks showed.
+/// By a check and at 1, 2, 3 and 8 nothing is written to a disk, and at 6 nothing but where the
+/// rule is `kept`. There, at 5 and at 7 nothing is written, or each disk is as some run leaves it
+/// that began with what the disks showed. Whatever a crash leaves of honest disks behind a run, at
+/// any status, holds a store in which all that was replied to stands, and the next opening shows
+/// that store (`next_starts_there`).
 pub fn run_program<T: Threads + Wait + Sync, R: Source, W: Sink, D: Disk + Send, G: Gate + Sync>(
     rt: &T,
     alloc: Global,
@@ -160,7 +171,7 @@ pub fn run_program<T: Threads + Wait + Sync, R: Source, W: Sink, D: Disk + Send,
     ensures due { (due : Due)
         × IsDue D.state D.faults words.now (R.remaining source.old)
         (Rose (R.faults source.old) (R.faults source.new))
-        (IsAtEnd (R.remaining source.new)) disks.items result.disks.items result.log due
+        (R.remaining source.new) disks.items result.disks.items result.log due
         × Finishes due result.status (W.contents sink.old) (W.contents sink.new)
         (Rose (W.faults sink.old) (W.faults sink.new)) }
 

@@ -37,21 +37,23 @@ fn get_prints<T: Threads + Wait + Sync + AllocGlobal>(
 }
 
 /// The bytes of a fresh disk after one put and one get.
-fn used<T: Threads + Wait + Sync + AllocGlobal>(rt: &T) -> Result<Vec<u8>, Fail> {
+pub fn used<T: Threads + Wait + Sync + AllocGlobal>(rt: &T) -> Result<Vec<u8>, Fail> {
     let ran = replay(rt, PUT_AND_GET, fresh_disks(rt.alloc(), 1)?)?;
     Ok(ran.content(0).to_vec(rt.alloc())?)
 }
 
-/// The front of that disk.
+/// The front of that disk: the header, two closed areas, and the record.
 const FRONT: &[u8] = &[
-    1, 0x4d, 0x4e, 0x4c, 0x4f, 0x47, 1, 0, 1, 0, 0, 0, 0, 0, 0, 0, 1, 0, 0, 0x04, 0x37, 2, 0, 0, 0,
+    1, 0x4d, 0x4e, 0x4c, 0x4f, 0x47, 2, 0, 1, 0, 0, 0, 0, 0, 0, 0, 0, 0, 0, 0, 0, 0, 0, 0, 0, 0, 0,
+    0, 0, 0, 0, 0, 0, 0, 0, 0, 0, 0, 0, 0, 0, 0, 0, 0, 0, 0, 0, 0, 0, 0, 0, 0, 0, 0, 0, 0, 0, 0, 0,
+    0, 0, 0, 0, 0, 0, 0, 0, 0, 0, 0, 0, 0, 0, 0, 0, 0, 0, 0, 0, 0, 1, 0, 0, 0x04, 0x37, 2, 0, 0, 0,
     1, 0, 0, 0, 0, 2, 0, 3, 1, 0, 0, 0x50, 0, 0, 0, 0, 8,
 ];
 
 #[test]
 fn a_log_begins_with_its_header_and_the_first_put(rt: HostRuntime) -> Result<(), Fail> {
     let bytes = used(&rt)?;
-    assert!(rt; bytes.len() == 1_101 && bytes.starts_with(FRONT));
+    assert!(rt; bytes.len() == 1_165 && bytes.starts_with(FRONT));
     Ok(())
 }
 
@@ -59,19 +61,20 @@ fn a_log_begins_with_its_header_and_the_first_put(rt: HostRuntime) -> Result<(),
 type Cut = (usize, u8, u8, &'static str);
 
 const CUTS: &[Cut] = &[
-    (1_101, 1, 0, V_IS_THERE),
-    (1_101, 0, 0, NOTHING_IS_THERE),
-    (17, 0, 0, NOTHING_IS_THERE),
+    (1_165, 1, 0, V_IS_THERE),
+    (1_165, 0, 0, NOTHING_IS_THERE),
+    (81, 0, 0, NOTHING_IS_THERE),
     (1_000, 0, 0, NOTHING_IS_THERE),
-    (1_000, 1, 6, "damaged 0 16 log\n"),
+    (1_000, 1, 6, "damaged 0 80 log\n"),
+    (80, 1, 0, NOTHING_IS_THERE),
     (16, 1, 0, NOTHING_IS_THERE),
 ];
 
 fn is_read_again<T: Threads + Wait + Sync + AllocGlobal>(rt: &T, cut: &Cut) -> Result<bool, Fail> {
     let (length, gate, status, written) = cut;
     let mut content = used(rt)?;
-    if content.len() > 16 {
-        content[16] = *gate;
+    if content.len() > 80 {
+        content[80] = *gate;
     }
     content.truncate(*length);
     get_prints(rt, &content, *status, written)
@@ -85,9 +88,11 @@ fn a_log_is_read_again(rt: HostRuntime) -> Result<(), Fail> {
     Ok(())
 }
 
-/// The header of the one node's log.
-const HEADER: [u8; 16] = [
-    1, 0x4d, 0x4e, 0x4c, 0x4f, 0x47, 1, 0, 1, 0, 0, 0, 0, 0, 0, 0,
+/// The header of the one node's log, and two closed areas.
+const HEADER: [u8; 80] = [
+    1, 0x4d, 0x4e, 0x4c, 0x4f, 0x47, 2, 0, 1, 0, 0, 0, 0, 0, 0, 0, 0, 0, 0, 0, 0, 0, 0, 0, 0, 0, 0,
+    0, 0, 0, 0, 0, 0, 0, 0, 0, 0, 0, 0, 0, 0, 0, 0, 0, 0, 0, 0, 0, 0, 0, 0, 0, 0, 0, 0, 0, 0, 0, 0,
+    0, 0, 0, 0, 0, 0, 0, 0, 0, 0, 0, 0, 0, 0, 0, 0, 0, 0, 0, 0, 0,
 ];
 
 /// Behind a header, the whole record of an id of client 0's serial 1 in run 1, of this kind, and an
@@ -101,10 +106,35 @@ fn damaged_behind(alloc: Global, kind: u8) -> Result<Vec<u8>, Fail> {
 #[test]
 fn the_lower_one_of_two_faults_is_told(rt: HostRuntime) -> Result<(), Fail> {
     // A Forced record, and one of a kind that there is not.
-    for (kind, written) in [(4, "damaged 0 31 log\n"), (9, "damaged 0 16 log\n")] {
+    for (kind, written) in [(4, "damaged 0 95 log\n"), (9, "damaged 0 80 log\n")] {
         let content = damaged_behind(rt.alloc(), kind)?;
         assert!(rt; get_prints(&rt, &content, 6, written)?);
     }
+    Ok(())
+}
+
+/// The gate of an area, and where it is told.
+const AREAS: [(usize, &str); 2] = [(16, "damaged 0 16 log\n"), (48, "damaged 0 48 log\n")];
+
+#[test]
+fn an_open_area_without_a_number_is_damage(rt: HostRuntime) -> Result<(), Fail> {
+    for (gate, written) in AREAS {
+        let mut content = used(&rt)?;
+        if gate < content.len() {
+            content[gate] = 1;
+        }
+        assert!(rt; get_prints(&rt, &content, 6, written)?);
+    }
+    Ok(())
+}
+
+#[test]
+fn a_log_of_format_1_is_refused(rt: HostRuntime) -> Result<(), Fail> {
+    let mut content = used(&rt)?;
+    if content.len() > 6 {
+        content[6] = 1;
+    }
+    assert!(rt; get_prints(&rt, &content, 6, "damaged 0 0 log\n")?);
     Ok(())
 }
 
@@ -139,9 +169,9 @@ fn a_page_with_the_last_number_is_worn(rt: HostRuntime) -> Result<(), Fail> {
 fn with_two_records<T: Threads + Wait + Sync + AllocGlobal>(rt: &T) -> Result<Vec<u8>, Fail> {
     let mut content = used(rt)?;
     let bytes = used(rt)?;
-    content.truncate(1_100);
-    if bytes.len() > 16 {
-        content.extend_from_slice(&bytes[16..])?;
+    content.truncate(1_164);
+    if bytes.len() > 80 {
+        content.extend_from_slice(&bytes[80..])?;
     }
     Ok(content)
 }
@@ -156,11 +186,11 @@ fn a_record_that_stands_twice_is_told(rt: HostRuntime) -> Result<(), Fail> {
 /// The used disk, with this last byte of the number of its run.
 fn of_run<T: Threads + Wait + Sync + AllocGlobal>(rt: &T, last: u8) -> Result<Vec<u8>, Fail> {
     let mut content = used(rt)?;
-    if content.len() > 25 {
-        content[22] = 0xff;
-        content[23] = 0xff;
-        content[24] = 0xff;
-        content[25] = last;
+    if content.len() > 89 {
+        content[86] = 0xff;
+        content[87] = 0xff;
+        content[88] = 0xff;
+        content[89] = last;
     }
     Ok(content)
 }

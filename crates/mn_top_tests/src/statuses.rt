@@ -50,22 +50,21 @@ const WRONG_WORDS: &[End] = &[
         "usage\n",
     ),
     (&["check", "1"], 1, &[], &[], 1, "usage\n"),
+    (&["check", "0", "d"], 1, &[], &[], 1, "usage\n"),
+    (&["check", "1", "7", "d"], 1, &[], &[], 1, "usage\n"),
     (&["--help"], 1, &[], &[], 1, "usage\n"),
 ];
 
 const OTHER_ENDS: &[End] = &[
-    (&["replay", "1", "d"], 1, &[], &[], 9, "unbuilt\n"),
-    (&["run", "1", "d"], 1, &[], &[], 9, "unbuilt\n"),
-    (
-        &["gen", "1", "18446744073709551615"],
-        1,
-        &[],
-        &[],
-        9,
-        "unbuilt\n",
-    ),
-    (&["gen", "1", "0", "d"], 1, &[], &[], 9, "unbuilt\n"),
-    (&["check", "1", "d"], 1, &[], &[], 9, "unbuilt\n"),
+    (&["replay", "1", "d"], 1, &[0], &[], 3, "read fault\n"),
+    (&["replay", "2", "d"], 1, &[], &[], 8, "disks 1 2\n"),
+    (&["run", "1", "d"], 1, &[0], &[], 3, "read fault\n"),
+    (&["run", "2", "d"], 2, &[], &[], 8, "disks 2 1\n"),
+    (&["gen", "2", "0"], 1, &[], &[], 8, "disks 1 2\n"),
+    (&["gen", "1", "0", "d"], 2, &[], &[], 8, "disks 2 1\n"),
+    (&["check", "2", "d"], 1, &[], &[], 8, "disks 1 2\n"),
+    (&["check", "1", "d"], 0, &[], &[], 8, "disks 0 1\n"),
+    (&["check", "1", "d"], 1, &[0], &[0], 4, ""),
     (&["replay", "2"], 1, &[], &[], 8, "disks 1 2\n"),
     (REPLAY, 0, &[], &[], 8, "disks 0 1\n"),
     (&["replay", "2"], 2, &[], &[], 8, "disks 2 1\n"),
@@ -79,6 +78,21 @@ const OTHER_ENDS: &[End] = &[
     (REPLAY, 1, &[], &[0], 4, ""),
     (RUN, 1, &[], &[0], 4, ""),
     (&[], 1, &[], &[0], 4, ""),
+];
+
+const SUMMARY: &str = "clients 10\noperations 3267\nsum 6400 6400\ndoubts 0\nend\n";
+
+/// Made scripts. Their source would fail if it were called.
+const MADE: &[End] = &[
+    (&["gen", "4", "7"], 4, &[0], &[], 0, SUMMARY),
+    (
+        &["gen", "1", "18446744073709551615"],
+        1,
+        &[0],
+        &[],
+        0,
+        SUMMARY,
+    ),
 ];
 
 /// Whether the words want disks exactly where they are no usage.
@@ -122,6 +136,13 @@ fn wrong_words_are_told_in_a_line(rt: HostRuntime) -> Result<(), Fail> {
 #[test]
 fn faults_and_wrong_disks_are_told_in_a_line(rt: HostRuntime) -> Result<(), Fail> {
     let wrong = first_other(&rt, OTHER_ENDS)?;
+    assert!(rt; wrong == None, "the row {wrong:?}");
+    Ok(())
+}
+
+#[test]
+fn made_scripts_keep_the_sum_of_each_version(rt: HostRuntime) -> Result<(), Fail> {
+    let wrong = first_other(&rt, MADE)?;
     assert!(rt; wrong == None, "the row {wrong:?}");
     Ok(())
 }

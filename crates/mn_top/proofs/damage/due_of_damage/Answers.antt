@@ -11,7 +11,7 @@ returns-in-Ok-None g c = λ old was.
     let k = c.args.node.0 in
     let are = rw c.in-Ok-None.field-0-is at c.in-Ok-None.ensures in
     subst (λ (d : Due). WasntRead state faults c.args.nodes k old c.read.new.disk d) (sym c.bad_log.ensures)
-    (damaged_first state faults c.args.nodes k old c.args.disk.now c.read.new.disk c.args.at was c.in-Ok.ensures.same c.in-Ok.front c.in-Ok.ensures.front are)
+    (damaged_first state faults c.args.nodes k old c.args.disk.now c.read.new.disk c.args.at was c.in-Ok.ensures.same c.in-Ok.front.start c.in-Ok.front.bodies c.in-Ok.ensures.front are)
 
 pub returns-in-Ok-Some : goal.returns-in-Ok-Some
 returns-in-Ok-Some g c = λ old was.
@@ -20,7 +20,7 @@ returns-in-Ok-Some g c = λ old was.
     let k = c.args.node.0 in
     let bad = rw c.in-Ok-Some.field-0-is at c.in-Ok-Some.ensures in
     subst (λ (d : Due). WasntRead state faults c.args.nodes k old c.read.new.disk d) (sym c.bad_log-in-Ok-Some.ensures)
-    (bad_first state faults c.args.nodes k old c.args.disk.now c.read.new.disk c.args.at was c.in-Ok.ensures.same c.in-Ok.front c.in-Ok-Some.place c.in-Ok.ensures.front bad)
+    (bad_first state faults c.args.nodes k old c.args.disk.now c.read.new.disk c.args.at was c.in-Ok.ensures.same c.in-Ok.front.start c.in-Ok.front.bodies c.in-Ok-Some.place c.in-Ok.ensures.front bad)
 
 pub returns : goal.returns
 returns g c = λ old was.

@@ -7,5 +7,5 @@ loop-number-preserved c =
     let are = c.loop-number.invariant in
     let record_there = c.in-Ok._record in (
       are.0 ++ record_there ∷ [],
-      one_read c.args.front.now c.loop-number.number are.0 record_there c.body.result.now are.1 (omega (arith, c.loop-number-test.true, c.count-number-end.ensures)) c.body.ensures c.in-Ok.ensures.read,
+      one_read c.args.front.now.bodies c.loop-number.number are.0 record_there c.body.result.now are.1 (omega (arith, c.loop-number-test.true, c.count-number-end.ensures)) c.body.ensures c.in-Ok.ensures.read,
     )

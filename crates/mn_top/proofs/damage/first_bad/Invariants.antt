@@ -5,4 +5,4 @@ use Rattle.mn_top.proofs.damage.first_bad.Given as goal
 
 -- the first bodies are records
 abbrev pub invariant-loop-number : goal.invariant-loop-number
-invariant-loop-number l = (records : List Record) × AreRecords (take l.number l.front) records
+invariant-loop-number l = (records : List Record) × AreRecords (take l.number l.front.bodies) records

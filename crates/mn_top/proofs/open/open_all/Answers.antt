@@ -1,7 +1,7 @@
-use Rattle.std.proofs.Common.{ℕ, ◌≡◌, ◌+◌, ◌++◌, ◌∷◌, [], ◌∙◌, length, length-append, map, drop, reverse, sym, ap, subst, arith}
-use Rattle.std.proofs.lemmas.List.{reverse-append, reverse-reverse}
+use Rattle.std.proofs.Common.{rules, ℕ, ◌≡◌, ◌<◌, ◌+◌, ◌-◌, Some, List, slice_get, ◌++◌, ◌∷◌, [], ◌∙◌, length, length-append, map, drop, reverse, sym, ap, subst, arith}
+use Rattle.std.proofs.lemmas.List.{length-drop, length-map, length-reverse, reverse-append, reverse-reverse}
 use Rattle.mn_top.specs.Logs.{WasRead, WasntRead}
-use Rattle.mn_top.proofs.Gets.{next_reversed}
+use Rattle.mn_top.proofs.Gets.{next_reversed, within}
 use Rattle.mn_top.proofs.ReadLogs.{read_more, wasnt_opened}
 use Rattle.mn_top.proofs.open.open_all.Goals as goal
 
@@ -23,8 +23,8 @@ loop-disk-preserved g c =
       omega arith,
     )
 
-pub returns-in-Err-clause-due : goal.returns-in-Err-clause-due
-returns-in-Err-clause-due g c =
+pub returns-in-Err-clause-failed : goal.returns-in-Err-clause-failed
+returns-in-Err-clause-failed g c =
     let kept = c.loop-disk.invariant in
     let redos = c.loop-disk.redos.items in
     let given = c.args.disks.items in
@@ -35,3 +35,35 @@ returns-in-Err-clause-due g c =
     (c.close_all.ensures ∙ ap (λ l. map (λ r. r.disk) redos ++ l) turned)
     (subst (λ (n : ℕ). WasntRead g.D.Disk.state g.D.Disk.faults n (length redos) c.in-Some.disk c.in-Err.field-0.disk c.in-Err.field-0.due) kept.2
     (subst (λ (n : ℕ). WasntRead g.D.Disk.state g.D.Disk.faults c.len-nodes.result n c.in-Some.disk c.in-Err.field-0.disk c.in-Err.field-0.due) number c.in-Err.ensures.bad))
+
+none_at : {X : Type 0} (k : ℕ) (x : X) → slice_get [] k ≡ Some x → ⊥
+none_at k x is = absurd cc
+
+pub loop-disk-init : goal.loop-disk-init
+loop-disk-init g c =
+    let given = c.args.disks.items in
+    let redos : c.in-Ok.redos.items ≡ [] = search rules in
+    let records : c.in-Ok.records.items ≡ [] = search rules in
+    let none : length c.in-Ok.redos.items ≡ 0 = ap length redos in (
+      record {
+        within = omega (arith, none);
+        same = ap length records ∙ sym none;
+        each = λ k old redo list was at there. absurd (none_at k redo (subst (λ (l : List _). slice_get l k ≡ Some redo) redos at));
+      },
+      c.reverse.ensures.items ∙ ap (λ (n : ℕ). reverse (drop n given)) (sym none),
+      search rules,
+      search rules,
+      search rules,
+      search rules,
+    )
+
+pub returns-in-Err-clause-count : goal.returns-in-Err-clause-count
+returns-in-Err-clause-count g c =
+    let kept = c.loop-disk.invariant in
+    let redos = c.loop-disk.redos.items in
+    let given = c.args.disks.items in
+    let next = next_reversed given c.pop.new.self.items c.loop-disk.rest.items (length redos) c.in-Some.disk kept.1 c.in-Some.ensures.items in
+    let rest : length c.pop.new.self.items ≡ length given - (length redos + 1) = ap length next.1 ∙ length-reverse (drop (length redos + 1) given) ∙ length-drop (length redos + 1) given in
+    let more : length c.push_reserved-in-Err.new.self.items ≡ length c.pop.new.self.items + 1 = ap length c.push_reserved-in-Err.ensures.items ∙ length-append c.pop.new.self.items (c.in-Err.field-0.disk ∷ []) in
+    let low : length redos < length given = within given (length redos) c.in-Some.disk next.0 in
+    ap length c.close_all.ensures ∙ length-append (map (λ r. r.disk) redos) (reverse c.push_reserved-in-Err.new.self.items) ∙ omega (arith, length-map redos (λ r. r.disk), length-reverse c.push_reserved-in-Err.new.self.items, rest, more, low, kept.0.within)

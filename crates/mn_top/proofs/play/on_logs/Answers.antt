@@ -53,4 +53,5 @@ returns-clause-comes_to g c = λ given all.
     let made = subst (λ (l : List (List Record)). MakeStart l c.in-Ok.judged.store c.in-Ok.judged.run) c.deref.ensures.value c.in-Ok.ensures.start in
     let failed = c.in-Err-start_all.field-0 in
     rw (c.without_log-in-Err-start_all.ensures.due, c.without_log-in-Err-start_all.ensures.disks, c.without_log-in-Err-start_all.ensures.log)
-    (not_started g.D.Disk.state g.D.Disk.faults given c.args.logs.redos.items c.args.logs.records.items all c.args.command c.args.script.now failed.disks.items failed.due c.in-Err-start_all.ensures.failed c.in-Ok.judged.store c.in-Ok.judged.run made)
+    (not_started g.D.Disk.state g.D.Disk.faults given c.args.logs.redos.items c.args.logs.records.items all (record { follow = c.runs_follow_protocol.ensures; leave = c.stops_leave_opened.ensures; one = c.runs_are_one_history.ensures })
+    c.args.command c.args.script.now failed.disks.items failed.due c.in-Err-start_all.ensures.failed c.in-Ok.judged.store c.in-Ok.judged.run made)

@@ -6,4 +6,4 @@ use Rattle.mn_top.proofs.words.behind_its_number.Goals as goal
 pub returns-then-eq : goal.returns-then-eq
 returns-then-eq c =
     let made : c.args.command ≡ Gen = search rules in
-    rw made (behind (map string_bytes c.args.words.now) (λ rest. map string_bytes rest.now) c.behind_number.result c.behind_number.ensures)
+    rw made (behind (map string_bytes c.args.words.now) (λ found. found.number) (λ found. map string_bytes found.rest.now) c.behind_number.result c.behind_number.ensures)
