@@ -12,6 +12,7 @@ the inserts, less an empty script. All processes are whole: reading, parsing and
 
 It prints the microseconds of processor time, user and system together, for an operation (for a
 scan, for a pair): the mean of all runs, which go in turns, with its standard error.
+Progress goes to stderr.
 """
 import os
 import shutil
@@ -20,6 +21,8 @@ import subprocess
 import sys
 import tempfile
 from pathlib import Path
+
+from progress import Progress
 
 TOP = Path(__file__).resolve().parent.parent
 PROGRAM = Path(os.environ.get("MINUET", TOP / "crates/minuet/out/minuet"))
@@ -137,29 +140,37 @@ def check(given: list[str], all_programs: list) -> None:
             sys.exit(f"{name} answers otherwise than replay 1")
 
 
-def spans(base: list[str], more: list[str], runs: int, all_programs: list) -> list[list[float]]:
+def spans(title: str, base: list[str], more: list[str], runs: int,
+          all_programs: list) -> list[list[float]]:
     """For each program the seconds that `more` takes behind `base`, of each run; all in turns."""
+    progress = Progress(f"{title}: runs of each program", runs)
     texts = [(script(base + more, nodes), script(base, nodes)) for _, _, nodes in all_programs]
     found: list[list[float]] = [[] for _ in all_programs]
     for _ in range(runs):
         for at, (_, words, _) in enumerate(all_programs):
             found[at].append(run(words, texts[at][0])[0] - run(words, texts[at][1])[0])
+        progress.step()
     return found
 
 
-def counts(base: list[str], more: list[str], all_programs: list) -> list[float]:
+def counts(title: str, base: list[str], more: list[str], all_programs: list) -> list[float]:
     """The same in instructions, of one run."""
-    return [instructions(words, script(base + more, nodes))
-            - instructions(words, script(base, nodes)) for _, words, nodes in all_programs]
+    progress = Progress(f"{title}: programs under valgrind", len(all_programs))
+    found = []
+    for _, words, nodes in all_programs:
+        found.append(instructions(words, script(base + more, nodes))
+                     - instructions(words, script(base, nodes)))
+        progress.step()
+    return found
 
 
 def row(title: str, base: list[str], more: list[str], units: int, runs: int,
         all_programs: list) -> None:
     if not runs:
-        cells = [f"{it / units:,.0f}" for it in counts(base, more, all_programs)]
+        cells = [f"{it / units:,.0f}" for it in counts(title, base, more, all_programs)]
     else:
         cells = []
-        for each in spans(base, more, runs, all_programs):
+        for each in spans(title, base, more, runs, all_programs):
             error = statistics.stdev(each) / runs ** 0.5 if runs > 1 else 0.0
             cells.append(f"{statistics.mean(each) / units * 1e6:.2f} ±{error / units * 1e6:.2f}")
     print(f"{title:22}" + "".join(f"{cell:>14}" for cell in cells), flush=True)

@@ -7,7 +7,7 @@ Each script has 8 nodes, 16 clients on two hot leaves, stops, kills and recovery
 report is right where its history, applied in order to a store without nodes, gives each answer and
 each version that the report prints, and holds just the operations that it must. At the end: the
 wall and processor time of `run 8` beside `replay 8`, for 8 clients of 1,000 operations each on
-keys of their own.
+keys of their own. Progress goes to stderr.
 """
 import hashlib
 import os
@@ -18,6 +18,8 @@ import tempfile
 import time
 from pathlib import Path
 from urllib.parse import unquote_to_bytes
+
+from progress import Progress
 
 PROGRAM = Path(os.environ.get(
     "MINUET", Path(__file__).resolve().parent.parent / "crates/minuet/out/minuet"))
@@ -267,6 +269,7 @@ def run(words: list, script: str) -> tuple[str, float, float]:
 
 def judge(runs: int) -> int:
     wrong, kinds = 0, {}
+    progress = Progress("scripts run on threads and judged", runs)
     for seed in range(runs):
         script = hot_script(seed)
         report, _wall, _used = run(["run", "8"], script)
@@ -277,6 +280,7 @@ def judge(runs: int) -> int:
         for line in report.splitlines()[:len(operations_of(script))]:
             kind = line.split(" ")[2]
             kinds[kind] = kinds.get(kind, 0) + 1
+        progress.step(f"{wrong} wrong")
     print(f"{runs} runs, {wrong} wrong; answers: "
           + ", ".join(f"{count} {kind}" for kind, count in sorted(kinds.items())))
     return wrong
@@ -285,7 +289,10 @@ def judge(runs: int) -> int:
 def compare_times() -> None:
     script = own_keys_script()
     for command in ("replay", "run"):
-        times = [run([command, "8"], script)[1:] for _ in range(3)]
+        times, progress = [], Progress(f"runs of {command} 8 timed", 3)
+        for _ in range(3):
+            times.append(run([command, "8"], script)[1:])
+            progress.step()
         wall, used = min(times)
         print(f"{command} 8: {wall:.2f} s by the wall, {used:.2f} s of processors")
 
