@@ -74,7 +74,7 @@ abandons_refused n done told decided e = all (nat_lt done n) (nat_lt 1 n && nat_
     all false true f = absurd cc
     all false false f = absurd cc
 
-fails_refused : (n done : ℕ) (told : Bool) (decided : ℕ)
+pub fails_refused : (n done : ℕ) (told : Bool) (decided : ℕ)
     → stage_of n done None told decided ≡ At.Failed → ⊥
 fails_refused n done told decided e = all (nat_lt done n) (nat_lt 1 n && nat_lt decided n) e
   where
@@ -92,7 +92,18 @@ doubts_refused n done told decided e = all (nat_lt done n) (nat_lt 1 n && nat_lt
     all false true f = absurd cc
     all false false f = absurd cc
 
-doubted_at : (c : Coordination) (node : NodeNo) → step_of c ≡ Doubt node → stage_in c ≡ At.Doubt
+-- one that found no memory neither waits for the rest nor is in doubt
+pub lacks_stage : (n done decided : ℕ)
+    → (stage_of n done (Some Say.NoMemory) false decided ≡ At.Failed)
+    ⊎ (stage_of n done (Some Say.NoMemory) false decided ≡ At.Abandon)
+lacks_stage n done decided = by (nat_eq n 1)
+  where
+    by : (alone : Bool) → ((if alone then At.Failed else At.Abandon) ≡ At.Failed)
+        ⊎ ((if alone then At.Failed else At.Abandon) ≡ At.Abandon)
+    by true = inl refl
+    by false = inr refl
+
+pub doubted_at : (c : Coordination) (node : NodeNo) → step_of c ≡ Doubt node → stage_in c ≡ At.Doubt
 doubted_at c node step = by (stage_in c) refl step
   where
     by : (stage : Stage) → stage_in c ≡ stage → step_at c stage ≡ Doubt node → stage_in c ≡ At.Doubt
@@ -104,7 +115,7 @@ doubted_at c node step = by (stage_in c) refl step
     by At.Failed s f = absurd cc
     by At.Doubt s f = s
 
-commits_unrefused : (n done : ℕ) (refused : Option NodeReply) (told : Bool) (decided : ℕ)
+pub commits_unrefused : (n done : ℕ) (refused : Option NodeReply) (told : Bool) (decided : ℕ)
     → stage_of n done refused told decided ≡ At.Committed → (refused ≡ None) × (n ≤ done)
 commits_unrefused n done None told decided e = (refl, all (nat_lt done n) (nat_lt 1 n && nat_lt decided n) refl e)
   where

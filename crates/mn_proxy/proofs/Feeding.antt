@@ -66,7 +66,7 @@ use Rattle.mn_work.specs.Refusals.{compares_at, refusal_of}
 use Rattle.mn_work.specs.Places.{place_of}
 use Rattle.mn_proxy.specs.State.{IsOutIn, ProxyState}
 use Rattle.mn_proxy.specs.Tries.{HasAsked, HasSentNone, Origin, WasRefused}
-use Rattle.mn_proxy.specs.Turns.{IsFed, IsSoundErrand, IsSoundUnderWay, IsSoundWork, OwesNoDecide, OwesNone}
+use Rattle.mn_proxy.specs.Turns.{AnswersPeek, IsFed, IsSoundErrand, IsSoundUnderWay, IsSoundWork, OwesNoDecide, OwesNone}
 use Rattle.mn_proxy.specs.Turns.{OwesNoneIn, WaitsFor, with_work}
 use Rattle.mn_work.specs.Works.{AsksCountFor, AsksPageFor, IsStartable, IsToAsk}
 use Rattle.mn_work.specs.Walks.{IfLater}
@@ -1227,14 +1227,31 @@ unanswered_agrees es p w (out.Mini tid c purpose) after reply own m sound none o
       (subst (CoordAgrees es) (takes.fed_is ∙ ap (fed c) none) (takes.no_entry none owes es m.coordinates)))),
 )
 
+-- so a Peek is answered
+peek_answers : (start length : ℕ) (reply : NodeReply) → Fits (Ask.Peek start length) reply
+    → AnswersPeek reply
+peek_answers start length (Say.Done reads) fits = absurd fits
+peek_answers start length (Say.BadLock s k h) fits = absurd fits
+peek_answers start length (Say.BadCompare i found) fits = absurd fits
+peek_answers start length Say.BadForced fits = absurd fits
+peek_answers start length (Say.Vote v) fits = absurd fits
+peek_answers start length Say.Decided fits = absurd fits
+peek_answers start length (Say.Listed l) fits = absurd fits.0
+peek_answers start length (Say.Peeked bytes) fits = tt
+peek_answers start length Say.Down fits = tt
+peek_answers start length Say.Stopped fits = absurd fits
+peek_answers start length Say.NoMemory fits = tt
+
 -- it is sound as before
 pub fed_sound : (known : Known) (w : Work) (errand after : Errand) (reply : NodeReply)
+    → ((node : NodeNo) (request : Request) → HasOutIn (Some (w, errand)) node request → Fits request reply)
     → IsSoundErrand known w errand → IsFed errand reply after → IsSoundErrand known w after
-fed_sound known w out.Nothing after reply sound fed = absurd fed
-fed_sound known w (out.Peeked place said purpose) after reply sound fed = absurd fed
-fed_sound known w (out.Peek place purpose) after reply sound is =
-    subst (IsSoundErrand known w) (sym is) sound
-fed_sound known w (out.Mini tid c purpose) after reply sound (d, is, takes) =
+fed_sound known w out.Nothing after reply fits sound fed = absurd fed
+fed_sound known w (out.Peeked place said purpose) after reply fits sound fed = absurd fed
+fed_sound known w (out.Peek place purpose) after reply fits sound is =
+    subst (IsSoundErrand known w) (sym is)
+    (sound.0, sound.1, peek_answers place.start place.length reply (fits place.node (Ask.Peek place.start place.length) (refl, refl)))
+fed_sound known w (out.Mini tid c purpose) after reply fits sound (d, is, takes) =
     subst (IsSoundErrand known w) (sym is)
     (ap (λ (x : Coordination). x.mini.nodes) takes.fed_is ∙ (nodes_stay (stage_in c) reply ∙ sound.0), sound.1)
   where
@@ -1279,10 +1296,11 @@ sound_of known o w errand is sound = subst (IsSoundUnderWay known) is sound
 
 -- with the reply it is
 pub fed_work : (known : Known) (w : Work) (errand after : Errand) (reply : NodeReply)
+    → ((node : NodeNo) (request : Request) → HasOutIn (Some (w, errand)) node request → Fits request reply)
     → IsSoundWork known w errand → IsFed errand reply after → IsSoundWork known w after
-fed_work known w errand after reply sound fed = record {
+fed_work known w errand after reply fits sound fed = record {
   few = sound.few;
-  errand_is = fed_sound known w errand after reply sound.errand_is fed;
+  errand_is = fed_sound known w errand after reply fits sound.errand_is fed;
 }
 
 -- it agrees with the list that has the reply

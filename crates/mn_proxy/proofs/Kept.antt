@@ -1,6 +1,6 @@
 -- What a turn makes of what is kept, from the clauses of what it calls.
 use Rattle.std.proofs.Common.{◌≡◌, ℕ, ◌+◌, ◌⊎◌, Bool, true, false, List, Option, Some, None, Result, Ok, Err, refl, sym, subst, ap, ◌∙◌, inl, inr, arith}
-use Rattle.std.specs.Prelude.{IfOk, IsErr, IsOk}
+use Rattle.std.specs.Prelude.{IfOk, IsErr, IsOk, OnErr}
 use Rattle.std.specs.Option.{option_map}
 use Rattle.std.proofs.lemmas.Bool.Decides.{nat_tests}
 use Rattle.mn_base.specs.declared.answer.Answer.{Answer}
@@ -9,30 +9,26 @@ use Rattle.mn_base.specs.declared.reply.Reply.{Reply}
 use Rattle.mn_base.specs.declared.error.NoMemory.{NoMemory}
 use Rattle.mn_cache.specs.Pages.{page_at, pages_without}
 use Rattle.mn_mini.specs.Mini.{Mini}
-use Rattle.mn_mini.specs.declared.reply.NodeReply.{NodeReply}
-use Rattle.mn_mini.specs.declared.reply.NodeReply.TheVariants as Say
 use Rattle.mn_page.specs.declared.page.Page.{Page}
 use Rattle.mn_page.specs.declared.entry.CatEntry.{CatEntry}
 use Rattle.mn_proxy.specs.declared.errand.Errand.{Errand}
-use Rattle.mn_proxy.specs.declared.errand.Errand.TheVariants as out
 use Rattle.mn_proxy.specs.declared.errand.Purpose.{Purpose}
 use Rattle.mn_proxy.specs.declared.errand.Purpose.TheVariants as reads_for
 use Rattle.mn_work.specs.declared.known.Known.{Known}
 use Rattle.mn_work.specs.declared.next.Next.{Next}
 use Rattle.mn_work.specs.declared.next.Next.TheVariants as wants_next
 use Rattle.mn_work.specs.declared.next.Taken.{Taken}
-use Rattle.mn_work.specs.declared.place.Place.{Place}
 use Rattle.mn_proxy.specs.Turn.{Turn}
 use Rattle.mn_proxy.specs.Turn as turns
 use Rattle.mn_proxy.specs.declared.step.ProxyStep.{ProxyStep}
 use Rattle.mn_work.specs.declared.work.Work.{Work}
 use Rattle.mn_work.specs.Cached.{AreUsed, Walks, without_next}
-use Rattle.mn_proxy.specs.Kept.{BeginsLater, CacheGoes, CacheTurns, CatalogGoes, CatalogTurns, Forgets, Issues, KeepsRead, LeavesBy, LeavesFor, PutsRead, Reads}
+use Rattle.mn_proxy.specs.Kept.{BeginsLater, CacheGoes, CacheTurns, CatalogGoes, CatalogTurns, Forgets, Issues, KeepsOrForgets, KeepsRead, LeavesBy, LeavesFor, PutsRead, Reads}
 use Rattle.mn_proxy.specs.Kept.{StepLeaves, TurnLeaves, is_later_in, read_by, read_for, read_in}
 use Rattle.mn_proxy.specs.LeafReads.{HasLeaf, shown_by}
 use Rattle.mn_proxy.specs.State.{ProxyState}
-use Rattle.mn_proxy.specs.Turns.{CameOf, Leaves, read_alone}
-use Rattle.mn_work.specs.Knows.{ArePages}
+use Rattle.mn_proxy.specs.Turns.{CameOf, IsReadFor, Leaves, read_alone}
+use Rattle.mn_work.specs.Knows.{ArePages, LearnsOrForgets}
 use Rattle.mn_work.specs.Walks.{is_later}
 use Rattle.mn_work.proofs.Cached.{none_used, without}
 use Rattle.mn_proxy.proofs.Taking.{came_keeps}
@@ -192,6 +188,32 @@ keeps_read old new before after (reads_for.Page addr) bytes taken came = came.0.
 keeps_read old new before after reads_for.Count bytes taken came = ap (λ (k : Known). k.catalog) came.0
 keeps_read old new before after (reads_for.Plan reply) bytes taken came = absurd came
 
+-- Where memory ran out
+
+pub err_then : {R E : Type 0} (result : Result R E) (P Q : Type 0) → (P → Q) → OnErr result P → OnErr result Q
+err_then (Ok made) P Q on is = tt
+err_then (Err none) P Q on is = on is
+
+-- where none was read it stays
+pub left_unread : (read : Option (Purpose × List ℕ)) (before after : Option (List CatEntry)) → read ≡ None
+    → after ≡ before → KeepsOrForgets read before after
+left_unread None before after none same = same
+left_unread (Some of) before after none same = absurd cc
+
+pub left_as : {R : Type 0} (result : Result R NoMemory) (read other : Option (Purpose × List ℕ))
+    (before after : Option (List CatEntry)) → read ≡ other → OnErr result (KeepsOrForgets other before after)
+    → OnErr result (KeepsOrForgets read before after)
+left_as result read other before after is left =
+    subst (λ (r : Option (Purpose × List ℕ)). OnErr result (KeepsOrForgets r before after)) (sym is) left
+
+-- as what was read left it
+pub left_taken : (old new : Known) (purpose : Purpose) (bytes : List ℕ) (after : Option (List CatEntry))
+    → Leaves old new purpose bytes → after ≡ new.catalog → KeepsOrForgets (Some (purpose, bytes)) old.catalog after
+left_taken old new reads_for.Catalog bytes after leaves same = subst (LearnsOrForgets bytes) (sym same) leaves.1
+left_taken old new (reads_for.Page addr) bytes after leaves same = same ∙ leaves.1
+left_taken old new reads_for.Count bytes after leaves same = same ∙ leaves.1
+left_taken old new (reads_for.Plan reply) bytes after leaves same = same ∙ leaves.1
+
 -- Under the proxy's own names
 
 pub never_later : is_later 0 ≡ true → ⊥
@@ -235,7 +257,22 @@ module _ (q p : ProxyState) (same : q ≡ p) where
       (catalog_then (Some (purpose, bytes)) q.known.catalog new.catalog last result
       (keeps_read q.known new before after purpose bytes taken came) goes)
 
+  pub left_next : {R : Type 0} (result : Result R NoMemory) (new : Known) (purpose : Purpose) (bytes : List ℕ)
+      (last : Option (List CatEntry)) → Leaves q.known new purpose bytes → OnErr result (last ≡ new.catalog)
+      → OnErr result (KeepsOrForgets (Some (purpose, bytes)) p.known.catalog last)
+  left_next result new purpose bytes last leaves left =
+      subst (λ (x : ProxyState). OnErr result (KeepsOrForgets (Some (purpose, bytes)) x.known.catalog last)) same
+      (err_then result (last ≡ new.catalog) (KeepsOrForgets (Some (purpose, bytes)) q.known.catalog last)
+      (left_taken q.known new purpose bytes last leaves) left)
+
 -- What was read
+
+-- what is no plan is read
+pub reads_unless : (purpose : Purpose) → ((reply : Reply) → purpose ≡ reads_for.Plan reply → ⊥) → IsReadFor purpose
+reads_unless reads_for.Catalog not = tt
+reads_unless (reads_for.Page addr) not = tt
+reads_unless reads_for.Count not = tt
+reads_unless (reads_for.Plan reply) not = not reply refl
 
 pub read_some : (purpose : Purpose) (reads : List (List (List ℕ))) (bytes : List ℕ) → ((reply : Reply) → purpose ≡ reads_for.Plan reply → ⊥)
     → read_alone reads ≡ Some bytes → read_for purpose reads ≡ Some (purpose, bytes)
@@ -320,12 +357,6 @@ pub catalog_as : {E : Type 0} (read as_is : Option (Purpose × List ℕ)) (befor
     → read ≡ as_is → IfOk result (CatalogTurns as_is before after) → IfOk result (CatalogTurns read before after)
 catalog_as read as_is before after result same goes =
     subst (λ (r : Option (Purpose × List ℕ)). IfOk result (CatalogTurns r before after)) (sym same) goes
-
--- a Peek that brought no bytes
-pub peeked_none : (place : Place) (reply : NodeReply) (purpose : Purpose) → ((bytes : List ℕ) → reply ≡ Say.Peeked bytes → ⊥)
-    → read_by (out.Peeked place reply purpose) ≡ None
-peeked_none place (Say.Peeked bytes) purpose not = absurd (not bytes refl)
-peeked_none place reply purpose not = refl
 
 -- Steps
 

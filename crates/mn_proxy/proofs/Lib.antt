@@ -6,10 +6,12 @@ pub mod Coordinating
 pub mod Ended
 pub mod Sending
 pub mod Feeding
+pub mod Firsts
 pub mod GetsShow
 pub mod Issues
 pub mod Issuing
 pub mod Kept
+pub mod Lacking
 pub mod Last
 pub mod LeafReads
 pub mod Measure

@@ -1,7 +1,7 @@
 -- How an operation is tried again, and given up, by its client's own list.
 use Rattle.std.proofs.Common.{◌≡◌, inl, inr, ℕ, zero, suc, ◌+◌, ◌<◌, ◌≤◌, Bool, false, List, [], ◌++◌}
 use Rattle.std.proofs.Common.{Option, Some, None, refl, subst, sym, arith}
-use Rattle.std.specs.Prelude.{MatchOption}
+use Rattle.std.specs.Prelude.{MatchOption, ⊤}
 use Rattle.mn_base.specs.declared.answer.Answer.TheVariants as answers
 use Rattle.mn_base.specs.declared.answer.Busy.{Busy}
 use Rattle.mn_base.specs.declared.answer.Busy.TheVariants.{Path}
@@ -16,7 +16,8 @@ use Rattle.mn_proxy.specs.Turn as turns
 use Rattle.mn_work.specs.declared.work.Job.{Job}
 use Rattle.mn_work.specs.declared.work.Job.TheVariants as at
 use Rattle.mn_work.specs.declared.work.Work.{Work}
-use Rattle.mn_proxy.specs.Agrees.{AreOverNodes, IsAtRest, IsOwn, IsOwnLast, KeptIsLast}
+use Rattle.mn_proxy.specs.Agrees.{AreOverNodes, IsAtRest, IsKept, IsOwn, IsOwnLast, KeptIsLast}
+use Rattle.mn_work.specs.Last.{CatalogIsLast}
 use Rattle.mn_work.specs.Children.{IsUnderWay as ChildIsUnderWay}
 use Rattle.mn_proxy.specs.Jobs.{BeganFrom, IsKeyAt, ScanShown, StandsAt}
 use Rattle.mn_proxy.specs.State.{ProxyState}
@@ -98,6 +99,37 @@ pub own_forgotten_as : (es : List Entry) (p q : ProxyState) → p ≡ q → IsOw
     → IsOwnLast es (record p { known = forgotten p.known })
 own_forgotten_as es p q same own =
     let by : IsOwnLast es p = subst (IsOwnLast es) (sym same) own in (own_forgotten es p by.0, (by.1.0, tt))
+
+-- where this is none
+abbrev pub with_catalog : Known → Option (List CatEntry) → Known
+with_catalog known catalog = record { nodes = known.nodes; catalog = catalog; cache = known.cache }
+
+pub own_forgotten_by : (es : List Entry) (p q : ProxyState) (catalog : Option (List CatEntry)) → catalog ≡ None → p ≡ q
+    → IsOwnLast es q → IsOwnLast es (record p { known = with_catalog p.known catalog })
+own_forgotten_by es p q catalog none same own =
+    subst (λ (o : Option (List CatEntry)). IsOwnLast es (record p { known = with_catalog p.known o })) (sym none)
+    (own_forgotten_as es p q same own)
+
+pub retried_by : (es : List Entry) (p q : ProxyState) (catalog : Option (List CatEntry)) → catalog ≡ None
+    → (w after : Work) → p ≡ q → after ≡ retried w → IsStartable w.op (retried_job w.job) → KeptIsLast es q.known
+    → MayRetry es q.known w → IsAtRest es (with_catalog p.known catalog) after
+retried_by es p q catalog none w after same is start last may =
+    subst (λ (o : Option (List CatEntry)). IsAtRest es (with_catalog p.known o) after) (sym none)
+    (retried_as es p q w after same is start last may)
+
+-- with the catalog that was kept it is so again
+pub own_restored : (es : List Entry) (p q : ProxyState) (catalog : Option (List CatEntry)) → catalog ≡ p.known.catalog
+    → IsOwnLast es p → IsOwnLast es q → IsOwnLast es (record q { known = with_catalog q.known catalog })
+own_restored es p q catalog is own left = (
+  record {
+    issues = left.0.issues;
+    issued = left.0.issued;
+    fresh = left.0.fresh;
+    catalog = subst (λ (o : Option (List CatEntry)). MatchOption o ⊤ (IsKept es)) (sym is) own.0.catalog;
+    recovers = left.0.recovers;
+  },
+  (left.1.0, subst (λ (o : Option (List CatEntry)). MatchOption o ⊤ (CatalogIsLast es)) (sym is) own.1.1),
+)
 
 -- Tries that failed
 

@@ -1,6 +1,6 @@
 -- What is so of a turn is so of the step that it was.
 use Rattle.std.proofs.Common.{◌≡◌, ℕ, List, Option, Some, None, Result, Ok, Err, refl, subst, sym, ap}
-use Rattle.std.specs.Prelude.{IfOk, OnErr}
+use Rattle.std.specs.Prelude.{IfOk, OnErr, OnOk}
 use Rattle.mn_base.specs.declared.answer.Answer.{Answer}
 use Rattle.mn_base.specs.declared.error.NoMemory.{NoMemory}
 use Rattle.mn_base.specs.declared.op.Op.{Op}
@@ -13,7 +13,7 @@ use Rattle.mn_work.specs.declared.known.Known.{Known}
 use Rattle.mn_work.specs.declared.work.Work.{Work}
 use Rattle.mn_work.specs.Walks.{is_later}
 use Rattle.mn_proxy.specs.Agrees.{Agrees, Enters, EntersWant, IsOwnLast, IsSoundStep, MayStep, Wants, WorksBy}
-use Rattle.mn_proxy.specs.Kept.{CacheGoes, CacheTurns, CatalogGoes, CatalogTurns, read_by}
+use Rattle.mn_proxy.specs.Kept.{CacheGoes, CacheTurns, CatalogGoes, CatalogLeft, CatalogTurns, KeepsOrForgets, read_by, read_in}
 use Rattle.mn_proxy.specs.LeafReads.{ReadsLeaf, StepReadsLeaf}
 use Rattle.mn_proxy.specs.Measure.{Falls, GoesBelow, steps_left}
 use Rattle.mn_proxy.specs.State.{ProxyState}
@@ -148,3 +148,15 @@ turned_ends None (Ok (steps.Issue tid mini)) answer ends = absurd cc
 turned_ends None (Ok (steps.Abandon tid)) answer ends = absurd cc
 turned_ends None (Ok (steps.Call node request)) answer ends = absurd cc
 turned_ends work (Err none) answer ends = tt
+
+-- where memory ran out
+pub turned_lost : (p q : ProxyState) (w : Work) (errand : Errand) → p.work ≡ Some (w, errand)
+    → (r : Result ProxyStep NoMemory) → OnErr r (KeepsOrForgets (read_by errand) p.known.catalog q.known.catalog)
+    → OnErr r (CatalogLeft p q)
+turned_lost p q w errand under r left =
+    subst (λ (o : Option (Work × Errand)). OnErr r (KeepsOrForgets (read_in o) p.known.catalog q.known.catalog)) (sym under) left
+
+-- none was made
+pub none_goes : (r : Result ProxyStep NoMemory) (P : ProxyStep → Type 0) → OnOk r ⊥ → IfOk r P
+none_goes (Ok step) P none = absurd none
+none_goes (Err none) P is = tt

@@ -1,7 +1,8 @@
 -- What a turn makes of what a proxy keeps, by what was read. The page of an address that was read
 -- leaves the cache, and an inner page is put in; one leaves besides for want of room, or in a later
 -- try that reads it next. The catalog is kept as it was read last, and goes where a later try
--- begins. Where there was no memory for what was read, what is kept of its place goes.
+-- begins, and nowhere else. Where there was no memory for what was read, what is kept of its place
+-- goes.
 use Rattle.std.specs.Prelude.{ℕ, ◌≡◌, ◌⊎◌, Bool, true, false, List, Option, Some, None}
 use Rattle.std.specs.Prelude.{Result, Ok, Err}
 use Rattle.std.specs.Option.{option_map}
@@ -30,6 +31,7 @@ use Rattle.mn_work.specs.declared.known.Known.{Known}
 use Rattle.mn_work.specs.declared.work.Work.{Work}
 use Rattle.mn_work.specs.Cached.{AreUsed, Replaces}
 use Rattle.mn_work.specs.Catalogs.{TellsVersions}
+use Rattle.mn_work.specs.Knows.{LearnsOrForgets}
 use Rattle.mn_proxy.specs.State.{ProxyState}
 use Rattle.mn_proxy.specs.Turns.{read_alone, with_work}
 use Rattle.mn_work.specs.Walks.{is_later}
@@ -111,6 +113,12 @@ CatalogTurns read before after (turns.Goes step work errand) =
 CatalogTurns read before after (turns.Ends answer) = KeepsRead read before after
 CatalogTurns read before after turns.Stops = KeepsRead read before after
 
+-- for want of memory the catalog that was read is kept, or none is; else the one that was
+abbrev pub KeepsOrForgets : Option (Purpose × List ℕ) → Option (List CatEntry)
+    → Option (List CatEntry) → Type 0
+KeepsOrForgets (Some (by.Catalog, bytes)) before after = LearnsOrForgets bytes after
+KeepsOrForgets read before after = after ≡ before
+
 -- Steps
 
 abbrev pub read_in : Option (Work × Errand) → Option (Purpose × List ℕ)
@@ -134,6 +142,10 @@ pub record CacheGoes (p q : ProxyState) (result : Result ProxyStep NoMemory) : T
   pub are_used : AreUsed put used
   pub leaves : (q.known.cache ≡ used)
       ⊎ StepLeaves (is_later_in p.work) result q.work used q.known.cache
+
+-- so a step for which there was no memory leaves it
+abbrev pub CatalogLeft : ProxyState → ProxyState → Type 0
+CatalogLeft p q = KeepsOrForgets (read_in p.work) p.known.catalog q.known.catalog
 
 -- the catalog that was read is kept, or the one that was; or a later try begins with none
 abbrev pub CatalogGoes : ProxyState → ProxyState → ProxyStep → Type 0

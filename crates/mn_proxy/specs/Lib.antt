@@ -1,4 +1,5 @@
 pub mod Agrees
+pub mod Firsts
 pub mod Issues
 pub mod Jobs
 pub mod Kept

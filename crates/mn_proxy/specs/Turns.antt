@@ -70,11 +70,24 @@ WaitsFor known w (by.Plan reply) =
     IsStartable w.op (retried_job w.job) × (known.catalog ≢ None)
 WaitsFor known w purpose = IsJobOf known w × AsksFor known w purpose
 
--- a minitransaction is over so many nodes
+-- what is read for it is no plan
+abbrev pub IsReadFor : Purpose → Type 0
+IsReadFor (by.Plan reply) = ⊥
+IsReadFor purpose = ⊤
+
+-- so a Peek may be answered
+abbrev pub AnswersPeek : NodeReply → Type 0
+AnswersPeek (Say.Peeked bytes) = ⊤
+AnswersPeek Say.Down = ⊤
+AnswersPeek Say.NoMemory = ⊤
+AnswersPeek reply = ⊥
+
+-- a minitransaction is over so many nodes, and a Peek is of no plan
 abbrev pub IsSoundErrand : Known → Work → Errand → Type 0
 IsSoundErrand known w out.Nothing = IsJobOf known w
-IsSoundErrand known w (out.Peek place purpose) = WaitsFor known w purpose
-IsSoundErrand known w (out.Peeked place reply purpose) = WaitsFor known w purpose
+IsSoundErrand known w (out.Peek place purpose) = WaitsFor known w purpose × IsReadFor purpose
+IsSoundErrand known w (out.Peeked place reply purpose) =
+    WaitsFor known w purpose × IsReadFor purpose × AnswersPeek reply
 IsSoundErrand known w (out.Mini tid c purpose) =
     (c.mini.nodes ≡ known.nodes) × WaitsFor known w purpose
 
@@ -329,6 +342,20 @@ OwesNoneIn (Some (work, errand)) = OwesNone errand
 
 abbrev pub OwesNoDecide : ProxyState → Type 0
 OwesNoDecide p = OwesNoneIn p.work
+
+-- the last reply, to a request that was no Decide, was that there is no memory
+abbrev pub LacksIn : Option (Work × Errand) → Type 0
+LacksIn (Some (work, out.Peeked place reply purpose)) = reply ≡ Say.NoMemory
+LacksIn (Some (work, out.Mini tid c purpose)) = (c.refused ≡ Some Say.NoMemory) × (c.told ≡ false)
+LacksIn under = ⊥
+
+abbrev pub LacksMemory : ProxyState → Type 0
+LacksMemory p = LacksIn p.work
+
+-- it gives a minitransaction up
+abbrev pub GivesUp : ProxyStep → Type 0
+GivesUp (steps.Abandon tid) = ⊤
+GivesUp step = ⊥
 
 -- the coordinator took the reply
 pub record TakesReply (c : Coordination) (reply : NodeReply) (after : Coordination) : Type 0 where

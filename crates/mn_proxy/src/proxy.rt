@@ -1,5 +1,6 @@
 //! The machine: which operation is under way, and what is on its way for it.
-ghost use Rattle.std.specs.Prelude.{◌≡◌, ◌≤◌, ◌∷◌, [], List, IfOk, IfSome, OnErr, None, Some};
+ghost use Rattle.std.specs.Prelude.{◌≡◌, ◌≤◌, ◌∷◌, [], List, IfOk, IfSome, OnErr, OnOk, None};
+ghost use Rattle.std.specs.Prelude.{Some};
 ghost use Rattle.mn_base.specs.declared.ids.NodeNo.{NodeNo};
 ghost use Rattle.mn_base.specs.declared.ids.Tid.{Tid};
 ghost use Rattle.mn_base.specs.declared.op.Op.{Op};
@@ -16,16 +17,17 @@ ghost use Rattle.mn_work.specs.declared.work.Work.{Work};
 ghost use Rattle.mn_proxy.specs.Agrees.{Agrees, BeginsNext, Enters, EntersWant, ErrandAgrees};
 ghost use Rattle.mn_proxy.specs.Agrees.{HasOut, IsOwn, IsOwnLast, IsSoundStep, MayStep, MayWant};
 ghost use Rattle.mn_proxy.specs.Agrees.{Wants};
-ghost use Rattle.mn_proxy.specs.Kept.{CacheGoes, CacheTurns, CatalogGoes, CatalogTurns};
-ghost use Rattle.mn_proxy.specs.Kept.{StepCalls, read_by};
+ghost use Rattle.mn_proxy.specs.Firsts.{FailsBy, FailsFirst, IsSecond};
+ghost use Rattle.mn_proxy.specs.Kept.{CacheGoes, CacheTurns, CatalogGoes, CatalogLeft};
+ghost use Rattle.mn_proxy.specs.Kept.{CatalogTurns, KeepsOrForgets, StepCalls, read_by};
 ghost use Rattle.mn_proxy.specs.Measure.{Falls, GoesBelow, steps_left};
 ghost use Rattle.mn_work.specs.Paths.{HasCurrentPath};
 ghost use Rattle.mn_proxy.specs.LeafReads.{LeafGoes, LeafTurns, ReadsLeaf};
 ghost use Rattle.mn_proxy.specs.LeafReads.{StepReadsLeaf};
 ghost use Rattle.mn_proxy.specs.State.{IsIdle, IsOut, IsOutIn, IsReady, begun, new_proxy};
-ghost use Rattle.mn_proxy.specs.Turns.{IsSoundTurn, IsSoundWork, KeepsSelf};
-ghost use Rattle.mn_proxy.specs.Turns.{IsSentWhole, IsSentWholeIn, OwesNoDecide, Sends, TurnAgrees};
-ghost use Rattle.mn_proxy.specs.Turns.{with_work};
+ghost use Rattle.mn_proxy.specs.Turns.{GivesUp, IsSoundTurn, IsSoundWork, KeepsSelf, LacksIn};
+ghost use Rattle.mn_proxy.specs.Turns.{IsSentWhole, IsSentWholeIn, LacksMemory, OwesNoDecide};
+ghost use Rattle.mn_proxy.specs.Turns.{Sends, TurnAgrees, with_work};
 ghost use Rattle.mn_proxy.specs.Turn.{turned};
 ghost use Rattle.mn_work.specs.Walks.{is_later};
 ghost use Rattle.mn_work.specs.Works.{new_work};
@@ -127,9 +129,10 @@ impl Proxy {
         self.work = Some((work, Errand::Nothing));
     }
 
-    /// What it wants next. After Done no operation is under way. NoMemory: there was no memory, and
-    /// no minitransaction is under way; or no serial is left for one more. The answer is NoMemory
-    /// then, and no operation is under way.
+    /// What it wants next. After Done no operation is under way. NoMemory: there was no memory,
+    /// here or at a node, or no serial is left for one more. It comes only while no minitransaction
+    /// is under way: the last one has ended. The answer is NoMemory then, and no operation is under
+    /// way.
     pub fn next(&mut self, alloc: Global) -> Result<ProxyStep, NoMemory>
         requires ready { IsReady self.old }
 
@@ -142,19 +145,32 @@ impl Proxy {
             → IfOk result (λ step. Enters es self.old step new → Agrees new self.new) }
         ensures goes_on { IfOk result (λ step. Wants step self.new) }
 
-        // For want of memory the operation may be answered so, and none is under way.
+        // Want of memory comes only while no minitransaction is under way. The operation may be
+        // answered so, and none is under way.
+        ensures over { OnErr result (IsSentWholeIn self.old.work) }
         ensures want { (es : List Entry) → Agrees es self.old → OnErr result (MayWant es) }
         ensures left { (es new : List Entry) → Agrees es self.old
             → OnErr result (EntersWant es self.old new → Agrees new self.new) }
         ensures ended { OnErr result (IsIdle self.new) }
         ensures kept { KeepsSelf self.old self.new }
 
+        // After a reply that there is no memory no call follows: what it was for is given up, or
+        // the operation is answered.
+        ensures lacks { LacksMemory self.old → IfOk result GivesUp }
+
+        // A first try fails only where a node refused it, or where it can't go on: at what was
+        // read, at a page that is kept, or where a later one would be answered.
+        ensures first { (es : List Entry) → Agrees es self.old
+            → IfOk result (λ _. FailsFirst self.old self.new) }
+
         // Each step lowers the number of steps that are left, which `feed` never raises.
         ensures falls { IfOk result (Falls self.old self.new) }
 
-        // What is kept stays, but for what was read, for want of room, and for a later try.
+        // What is kept stays, but for what was read, for want of room, and for a later try. For
+        // want of memory the catalog goes only where it was read.
         ensures cache { CacheGoes self.old self.new result }
         ensures catalog { IfOk result (CatalogGoes self.old self.new) }
+        ensures left_catalog { OnErr result (CatalogLeft self.old self.new) }
 
         // The calls of a minitransaction are those of its coordinator.
         ensures calls { (work : Work) (tid : Tid) (c : Coordination) (purpose : Purpose)
@@ -174,7 +190,7 @@ impl Proxy {
             Some(step) => Ok(step),
             None => {
                 let Some((work, errand)) = self.work.take() else {
-                    return Err(NoMemory);
+                    unreachable!();
                 };
                 self.turn(alloc, work, errand)
             }
@@ -219,6 +235,13 @@ impl Proxy {
             self.old.known.cache self.new.known.cache (turned self.new.work result) }
         ensures catalog { IfOk (turned self.new.work result)
             (CatalogTurns (read_by errand) self.old.known.catalog self.new.known.catalog) }
+        ensures left_catalog { OnErr result
+            (KeepsOrForgets (read_by errand) self.old.known.catalog self.new.known.catalog) }
+        ensures lacks { LacksIn (Some (work, errand)) → OnOk result ⊥ }
+        ensures first { (es : List Entry) → IsOwn es self.old
+            → ErrandAgrees es self.old.known work errand → work.failed ≡ 0
+            → IfOk (turned self.new.work result)
+            (λ turn. IsSecond turn → FailsBy self.old.known work errand) }
         ensures path { (op : Op) (leaf : Descent) → (work ≡ new_work op)
             → errand ≡ errands.Nothing → HasCurrentPath self.old.known op leaf
             → IfOk (turned self.new.work result) (ReadsLeaf self.old.known.nodes op leaf) }
@@ -227,10 +250,7 @@ impl Proxy {
     {
         match errand {
             Errand::Nothing => self.advance(alloc, work),
-            Errand::Peek {
-                place: _place,
-                purpose: _purpose,
-            } => Err(NoMemory),
+            Errand::Peek { .. } => unreachable!(),
             Errand::Peeked {
                 place,
                 reply,
@@ -244,9 +264,12 @@ impl Proxy {
         }
     }
 
-    /// The reply to the request that is out. It takes no memory.
+    /// The reply to the request that is out, of a kind that it may be answered by. It takes no
+    /// memory.
     pub fn feed(&mut self, reply: NodeReply)
         requires out { IsOut self.old }
+        requires fits { (node : NodeNo) (request : Request) → HasOut self.old node request
+            → Fits request reply }
         ensures ready { IsReady self.new }
         ensures agrees { (es : List Entry) (e : Entry) (node : NodeNo) (request : Request)
             → Agrees es self.old → HasOut self.old node request → Fits request reply
@@ -255,6 +278,8 @@ impl Proxy {
         // NoMemory is no entry; a Decide isn't answered so.
         ensures no_entry { (es : List Entry) → Agrees es self.old → reply ≡ NodeReply.NoMemory
             → OwesNoDecide self.old → Agrees es self.new }
+        ensures lacks { (es : List Entry) → Agrees es self.old → reply ≡ NodeReply.NoMemory
+            → OwesNoDecide self.old → LacksMemory self.new }
         ensures kept { KeepsSelf self.old self.new }
         ensures falls { steps_left self.new ≤ steps_left self.old }
         ensures known { self.new.known ≡ self.old.known }

@@ -10,6 +10,7 @@ ghost use Rattle.mn_law.specs.Places.{catalog_place};
 ghost use Rattle.mn_proxy.specs.declared.errand.Purpose.TheVariants as purposes;
 ghost use Rattle.mn_work.specs.declared.get.Descent.{Descent};
 ghost use Rattle.mn_proxy.specs.Agrees.{IsAtRest, IsOwn, IsOwnLast, IsPlaceFor, MayPeekFor};
+ghost use Rattle.mn_proxy.specs.Firsts.{FailsAsKept, IsSecond};
 ghost use Rattle.mn_work.specs.Cached.{Walks, next_of};
 ghost use Rattle.mn_proxy.specs.Kept.{CacheTurns, CatalogTurns, GoesWith, Issues, Reads};
 ghost use Rattle.mn_work.specs.Knows.{KeepsKnown};
@@ -18,8 +19,8 @@ ghost use Rattle.mn_work.specs.Paths.{HasCurrentPath, WantsLeaf};
 ghost use Rattle.mn_proxy.specs.LeafReads.{ReadsLeaf};
 ghost use Rattle.mn_work.specs.Places.{place_of};
 ghost use Rattle.mn_proxy.specs.Tries.{max_tries};
-ghost use Rattle.mn_proxy.specs.Turns.{IsSoundTurn, KeepsSelf, MayIssue, TurnAgrees, WaitsFor};
-ghost use Rattle.mn_proxy.specs.Turns.{read_mini, with_known};
+ghost use Rattle.mn_proxy.specs.Turns.{IsReadFor, IsSoundTurn, KeepsSelf, MayIssue, TurnAgrees};
+ghost use Rattle.mn_proxy.specs.Turns.{WaitsFor, read_mini, with_known};
 ghost use Rattle.mn_proxy.specs.Turn.{turned};
 ghost use Rattle.mn_work.specs.Walks.{is_later};
 ghost use Rattle.mn_work.specs.Works.{IsJobOf, IsStartable, IsToAsk, KeepsOp, StaysLast};
@@ -35,7 +36,8 @@ use mn_mini::{Item, Items, MAX_ITEM, Minitransaction, Request, SPACE};
 use mn_work::{Next, Place, Task};
 use std::alloc::Global;
 
-/// A minitransaction that reads a place. NoMemory: there was no memory for it.
+/// A minitransaction that reads a place. NoMemory: there was no memory for it; or the place lies
+/// outside the space, as the address of a page that was read may say: no run shows one.
 #[inline(never)]
 fn read_of(alloc: Global, nodes: u8, place: Place) -> Result<Minitransaction, NoMemory>
     ensures { IfOk result (λ mini. mini ≡ read_mini nodes (place_of place)) }
@@ -97,6 +99,9 @@ impl Proxy {
             self.old.known.cache self.new.known.cache (turned self.new.work result) }
         ensures catalog { IfOk (turned self.new.work result)
             (CatalogTurns None self.old.known.catalog self.new.known.catalog) }
+        ensures left_catalog { OnErr result (self.new.known.catalog ≡ self.old.known.catalog) }
+        ensures first { work.failed ≡ 0 → IfOk (turned self.new.work result)
+            (λ turn. IsSecond turn → FailsAsKept self.old.known work) }
         ensures path { (op : Op) (leaf : Descent) → (work ≡ new_work op)
             → HasCurrentPath self.old.known op leaf
             → IfOk (turned self.new.work result) (ReadsLeaf self.old.known.nodes op leaf) }
@@ -183,6 +188,7 @@ impl Proxy {
         requires idle { self.old.work ≡ None }
         requires few { work.failed < max_tries }
         requires waits { WaitsFor self.old.known work purpose }
+        requires reads { IsReadFor purpose }
         requires node { place.node.0 < self.old.known.nodes }
         ensures sound { IfOk (turned self.new.work result) (IsSoundTurn self.new.known) }
         ensures turns { (es : List Entry) → IsOwn es self.old → IsAtRest es self.old.known work
@@ -212,12 +218,14 @@ impl Proxy {
         peek && self.peeks > 0
     }
 
-    /// Reads a place by a Peek.
+    /// Reads a place by a Peek. NoMemory: the place lies outside the space, as the address of a
+    /// page that was read may say: no run shows one.
     #[inline(always)]
     fn peek(&mut self, work: Task, place: Place, purpose: Purpose) -> Result<ProxyStep, NoMemory>
         requires idle { self.old.work ≡ None }
         requires few { work.failed < max_tries }
         requires waits { WaitsFor self.old.known work purpose }
+        requires reads { IsReadFor purpose }
         requires node { place.node.0 < self.old.known.nodes }
         requires left { 1 ≤ self.old.peeks }
         ensures sound { IfOk (turned self.new.work result) (IsSoundTurn self.new.known) }
@@ -248,7 +256,8 @@ impl Proxy {
         Ok(step)
     }
 
-    /// Issues a minitransaction under the next serial.
+    /// Issues a minitransaction under the next serial. NoMemory: there was no memory, or no serial
+    /// is left.
     #[inline(never)]
     fn issue(
         &mut self,

@@ -1,7 +1,8 @@
 //! How a try fails, and what follows: a later one, or the answer.
-ghost use Rattle.std.specs.Prelude.{◌≡◌, ◌<◌, ◌+◌, List, IfOk, OnErr, None, Some};
+ghost use Rattle.std.specs.Prelude.{◌≡◌, ◌≢◌, ◌<◌, ◌+◌, List, IfOk, OnErr, OnOk, None, Some};
 ghost use Rattle.mn_runs.specs.declared.entry.Entry.{Entry};
 ghost use Rattle.mn_proxy.specs.Agrees.{IsOwnLast};
+ghost use Rattle.mn_proxy.specs.Firsts.{IsRefusal, IsSecond};
 ghost use Rattle.mn_proxy.specs.Kept.{CatalogTurns};
 ghost use Rattle.mn_proxy.specs.Measure.{GoesBelow, left_after};
 ghost use Rattle.mn_proxy.specs.Tries.{max_tries};
@@ -55,6 +56,7 @@ fn failure_by(
 /// here.
 #[inline(never)]
 fn failure_of(alloc: Global, tid: Tid, node: NodeNo, outcome: Outcome) -> Result<Failure, NoMemory>
+    requires failed { outcome.reply ≢ None }
     ensures { IfOk result (FailsSo tid outcome.mini node outcome.reply) }
 {
     let Outcome {
@@ -64,7 +66,7 @@ fn failure_of(alloc: Global, tid: Tid, node: NodeNo, outcome: Outcome) -> Result
     } = outcome;
     match reply {
         Some(reply) => failure_by(alloc, tid, &mini, node, reply),
-        None => Err(NoMemory),
+        None => unreachable!(),
     }
 }
 
@@ -82,6 +84,7 @@ impl Proxy {
         requires idle { self.old.work ≡ None }
         requires few { work.failed < max_tries }
         requires startable { IsStartable work.op (retried_job work.job) }
+        requires failed { outcome.reply ≢ None }
         ensures sound { IfOk (turned self.new.work result) (IsSoundTurn self.new.known) }
         ensures turns { (es : List Entry) → IsOwnLast es self.old
             → IsRefused es self.old.known work tid outcome.mini node outcome.reply
@@ -94,6 +97,12 @@ impl Proxy {
         ensures cache { self.new.known.cache ≡ self.old.known.cache }
         ensures catalog { IfOk (turned self.new.work result)
             (CatalogTurns None self.old.known.catalog self.new.known.catalog) }
+        ensures left_catalog { OnErr result (self.new.known.catalog ≡ self.old.known.catalog) }
+        ensures lacks { outcome.reply ≡ Some NodeReply.NoMemory → OnOk result ⊥ }
+        ensures first { (es : List Entry)
+            → IsRefused es self.old.known work tid outcome.mini node outcome.reply
+            → IfOk (turned self.new.work result)
+            (λ turn. IsSecond turn → IsRefusal outcome.reply) }
     {
         match failure_of(alloc, tid, node, outcome)? {
             Failure::Down => Ok(ProxyStep::Done {
@@ -104,7 +113,8 @@ impl Proxy {
     }
 
     /// Goes on after a try that failed: with a later one, which reads the catalog anew, or with the
-    /// answer. Only the first try may fail with no cause: no run shows this of a later one.
+    /// answer. Only the first try may fail with no cause. A later one does so by replies that no
+    /// run gives, which nothing here rules out: the answer is NoMemory then.
     #[inline(never)]
     pub(super) fn fail(
         &mut self,
@@ -127,6 +137,7 @@ impl Proxy {
         ensures cache { self.new.known.cache ≡ self.old.known.cache }
         ensures catalog { IfOk (turned self.new.work result)
             (CatalogTurns None self.old.known.catalog self.new.known.catalog) }
+        ensures left_catalog { OnErr result (self.new.known.catalog ≡ self.old.known.catalog) }
     {
         match cause {
             None if work.get().is_later() => Err(NoMemory),
@@ -137,7 +148,8 @@ impl Proxy {
         }
     }
 
-    /// Begins a later try.
+    /// Begins a later try, which goes by no kept catalog. Where there is no memory for one the
+    /// catalog stays.
     #[inline(always)]
     fn retry(&mut self, alloc: Global, work: Task) -> Result<ProxyStep, NoMemory>
         requires idle { self.old.work ≡ None }
@@ -155,10 +167,17 @@ impl Proxy {
         ensures cache { self.new.known.cache ≡ self.old.known.cache }
         ensures catalog { IfOk (turned self.new.work result)
             (CatalogTurns None self.old.known.catalog self.new.known.catalog) }
+        ensures left_catalog { OnErr result (self.new.known.catalog ≡ self.old.known.catalog) }
     {
         let mut work = work;
         work.get_mut().retry();
-        self.known.catalog = None;
-        self.read_catalog(alloc, work)
+        let kept = self.known.catalog.take();
+        match self.read_catalog(alloc, work) {
+            Ok(step) => Ok(step),
+            Err(error) => {
+                self.known.catalog = kept;
+                Err(error)
+            }
+        }
     }
 }

@@ -1,21 +1,23 @@
 //! How an operation goes on by what came: a Peek, or a minitransaction under way.
-ghost use Rattle.std.specs.Prelude.{◌≡◌, ◌<◌, ◌+◌, List, IfOk, OnErr, None, Some, false};
-ghost use Rattle.std.specs.Prelude.{option_map};
+ghost use Rattle.std.specs.Prelude.{◌≡◌, ◌<◌, ◌+◌, List, IfOk, OnErr, OnOk, None, Some, false};
+ghost use Rattle.std.specs.Prelude.{MatchOption, option_map};
 ghost use Rattle.mn_coord.specs.Coordination.{step_of};
 ghost use Rattle.mn_runs.specs.declared.entry.Entry.{Entry};
 ghost use Rattle.mn_runs.specs.Calls.{since_begin};
 ghost use Rattle.mn_proxy.specs.declared.errand.Errand.TheVariants as errands;
 ghost use Rattle.mn_proxy.specs.Agrees.{AreOverNodes, ErrandAgrees, HasRead, IsOwn};
 ghost use Rattle.mn_proxy.specs.Agrees.{IsOwnLast, MayWant, MiniAgrees};
+ghost use Rattle.mn_proxy.specs.Firsts.{FailsAsRead, IsRefusal, IsSecond};
 ghost use Rattle.mn_proxy.specs.Issues.{AreClosed};
-ghost use Rattle.mn_proxy.specs.Kept.{CacheTurns, CatalogTurns, Forgets, PutsRead, read_by};
-ghost use Rattle.mn_proxy.specs.Kept.{read_for, read_when};
+ghost use Rattle.mn_proxy.specs.Kept.{CacheTurns, CatalogTurns, Forgets, KeepsOrForgets, PutsRead};
+ghost use Rattle.mn_proxy.specs.Kept.{read_by, read_for, read_when};
 ghost use Rattle.mn_work.specs.Knows.{ArePages};
 ghost use Rattle.mn_proxy.specs.Measure.{GoesBelow, left_after, left_of};
 ghost use Rattle.mn_proxy.specs.LeafReads.{LeafTurns};
 ghost use Rattle.mn_proxy.specs.Tries.{max_tries};
-ghost use Rattle.mn_proxy.specs.Turns.{CameOf, IsCommitted, IsEnd, IsSoundTurn, KeepsSelf, Leaves};
-ghost use Rattle.mn_proxy.specs.Turns.{TurnAgrees, WaitsFor, read_alone};
+ghost use Rattle.mn_proxy.specs.Turns.{AnswersPeek, CameOf, IsCommitted, IsEnd, IsReadFor};
+ghost use Rattle.mn_proxy.specs.Turns.{IsSoundTurn, KeepsSelf, Leaves, TurnAgrees, WaitsFor};
+ghost use Rattle.mn_proxy.specs.Turns.{read_alone};
 ghost use Rattle.mn_proxy.specs.Turn.{turned};
 ghost use Rattle.mn_work.specs.Walks.{is_later};
 
@@ -60,6 +62,7 @@ fn taken_for(
 ) -> Result<Taken, NoMemory>
     requires pages { ArePages known.old.cache }
     requires waits { WaitsFor known.old work.old purpose }
+    requires reads { IsReadFor purpose }
     ensures pages { ArePages known.new.cache }
     ensures leaves { Leaves known.old known.new purpose bytes }
     ensures came { IfOk result (CameOf known.old known.new work.old work.new purpose bytes) }
@@ -69,7 +72,7 @@ fn taken_for(
         Purpose::Catalog => work.get_mut().take_catalog(alloc, known, &bytes),
         Purpose::Page { addr } => work.get_mut().take_page(alloc, known, addr, bytes),
         Purpose::Count => work.get_mut().take_count(bytes.as_slice()),
-        Purpose::Plan { .. } => Err(NoMemory),
+        Purpose::Plan { .. } => unreachable!(),
     }
 }
 
@@ -87,6 +90,8 @@ impl Proxy {
         requires idle { self.old.work ≡ None }
         requires few { work.failed < max_tries }
         requires waits { WaitsFor self.old.known work purpose }
+        requires reads { IsReadFor purpose }
+        requires fits { AnswersPeek reply }
         ensures sound { IfOk (turned self.new.work result) (IsSoundTurn self.new.known) }
         ensures turns { (es : List Entry) → IsOwn es self.old
             → ErrandAgrees es self.old.known work (errands.Peeked place reply purpose)
@@ -106,6 +111,14 @@ impl Proxy {
         ensures catalog { IfOk (turned self.new.work result)
             (CatalogTurns (read_by (errands.Peeked place reply purpose))
             self.old.known.catalog self.new.known.catalog) }
+        ensures left_catalog { OnErr result
+            (KeepsOrForgets (read_by (errands.Peeked place reply purpose))
+            self.old.known.catalog self.new.known.catalog) }
+        ensures lacks { reply ≡ NodeReply.NoMemory → OnOk result ⊥ }
+        ensures first { work.failed ≡ 0 → IfOk (turned self.new.work result)
+            (λ turn. IsSecond turn → MatchOption
+            (read_by (errands.Peeked place reply purpose)) ⊥
+            (FailsAsRead self.old.known work)) }
         ensures leaf { LeafTurns self.old.known work
             (read_by (errands.Peeked place reply purpose)) (turned self.new.work result) }
     {
@@ -114,7 +127,8 @@ impl Proxy {
             NodeReply::Down => Ok(ProxyStep::Done {
                 answer: Answer::Down { node: place.node },
             }),
-            _reply => Err(NoMemory),
+            NodeReply::NoMemory => Err(NoMemory),
+            _ => unreachable!(),
         }
     }
 
@@ -153,6 +167,15 @@ impl Proxy {
         ensures catalog { IfOk (turned self.new.work result)
             (CatalogTurns (read_when (step_of coordinator) coordinator.reads purpose)
             self.old.known.catalog self.new.known.catalog) }
+        ensures left_catalog { OnErr result
+            (KeepsOrForgets (read_when (step_of coordinator) coordinator.reads purpose)
+            self.old.known.catalog self.new.known.catalog) }
+        ensures lacks { coordinator.refused ≡ Some NodeReply.NoMemory → OnOk result ⊥ }
+        ensures first { (es : List Entry) → IsOwn es self.old
+            → MiniAgrees es self.old.known work tid coordinator purpose → work.failed ≡ 0
+            → IfOk (turned self.new.work result) (λ turn. IsSecond turn → MatchOption
+            (read_when (step_of coordinator) coordinator.reads purpose)
+            (IsRefusal coordinator.refused) (FailsAsRead self.old.known work)) }
         ensures leaf { LeafTurns self.old.known work
             (read_when (step_of coordinator) coordinator.reads purpose)
             (turned self.new.work result) }
@@ -174,7 +197,8 @@ impl Proxy {
         }
     }
 
-    /// Goes on after a minitransaction that is committed.
+    /// Goes on after a minitransaction that is committed. NoMemory: there was no memory; or a read
+    /// has brought no bytes, as its one participant may say: no run shows it.
     #[inline(always)]
     fn commit(
         &mut self,
@@ -204,6 +228,11 @@ impl Proxy {
         ensures catalog { IfOk (turned self.new.work result)
             (CatalogTurns (read_for purpose reads.now)
             self.old.known.catalog self.new.known.catalog) }
+        ensures left_catalog { OnErr result (KeepsOrForgets (read_for purpose reads.now)
+            self.old.known.catalog self.new.known.catalog) }
+        ensures first { work.failed ≡ 0 → IfOk (turned self.new.work result)
+            (λ turn. IsSecond turn → MatchOption (read_for purpose reads.now) ⊥
+            (FailsAsRead self.old.known work)) }
         ensures leaf { LeafTurns self.old.known work (read_for purpose reads.now)
             (turned self.new.work result) }
     {
@@ -231,6 +260,7 @@ impl Proxy {
         requires idle { self.old.work ≡ None }
         requires few { work.failed < max_tries }
         requires waits { WaitsFor self.old.known work purpose }
+        requires reads { IsReadFor purpose }
         ensures sound { IfOk (turned self.new.work result) (IsSoundTurn self.new.known) }
         ensures turns { (es : List Entry) → IsOwn es self.old
             → HasRead es self.old.known work purpose bytes.now → AreClosed (since_begin es)
@@ -247,6 +277,10 @@ impl Proxy {
         ensures catalog { IfOk (turned self.new.work result)
             (CatalogTurns (Some (purpose, bytes.now))
             self.old.known.catalog self.new.known.catalog) }
+        ensures left_catalog { OnErr result (KeepsOrForgets (Some (purpose, bytes.now))
+            self.old.known.catalog self.new.known.catalog) }
+        ensures first { work.failed ≡ 0 → IfOk (turned self.new.work result)
+            (λ turn. IsSecond turn → FailsAsRead self.old.known work (purpose, bytes.now)) }
         ensures leaf { LeafTurns self.old.known work (Some (purpose, bytes.now))
             (turned self.new.work result) }
     {
@@ -271,6 +305,7 @@ impl Proxy {
         requires idle { self.old.work ≡ None }
         requires few { work.failed < max_tries }
         requires waits { WaitsFor self.old.known work purpose }
+        requires reads { IsReadFor purpose }
         ensures sound { IfOk (turned self.new.work result) (IsSoundTurn self.new.known) }
         ensures turns { (es : List Entry) → IsOwn es self.old
             → HasRead es self.old.known work purpose bytes → AreClosed (since_begin es)
@@ -287,6 +322,10 @@ impl Proxy {
         ensures catalog { IfOk (turned self.new.work result)
             (CatalogTurns (Some (purpose, bytes))
             self.old.known.catalog self.new.known.catalog) }
+        ensures left_catalog { OnErr result (KeepsOrForgets (Some (purpose, bytes))
+            self.old.known.catalog self.new.known.catalog) }
+        ensures first { work.failed ≡ 0 → IfOk (turned self.new.work result)
+            (λ turn. IsSecond turn → FailsAsRead self.old.known work (purpose, bytes)) }
         ensures leaf { LeafTurns self.old.known work (Some (purpose, bytes))
             (turned self.new.work result) }
     {

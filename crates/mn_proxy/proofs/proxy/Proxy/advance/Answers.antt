@@ -24,8 +24,10 @@ use Rattle.mn_proxy.specs.LeafReads.{ReadsLeaf}
 use Rattle.mn_work.specs.Walks.{is_later}
 use Rattle.mn_proxy.proofs.LeafReads.{reads_leaf}
 use Rattle.mn_work.proofs.Cached.{walks_none}
-use Rattle.mn_proxy.proofs.Kept.{catalog_stays, catalog_then, no_page_turns, page_turns, used_turns}
+use Rattle.mn_proxy.proofs.Kept.{catalog_stays, catalog_then, err_then, no_page_turns, page_turns, used_turns}
 use Rattle.mn_proxy.proofs.Taking.{none_made}
+use Rattle.mn_proxy.specs.Firsts.{FailsAsKept, IsSecond}
+use Rattle.mn_proxy.proofs.Firsts.{issues_first, ok_any, reads_first}
 use Rattle.mn_proxy.proofs.proxy.Proxy.advance.Goals as goal
 
 any_err : {T E : Type 0} (r : Result T E) (A : Type 0) → A → OnErr r A
@@ -326,3 +328,66 @@ returns-in-Page-clause-path c = λ op leaf new path.
     let wants = c.in_ok-want.ensures.path op leaf new path in
     reads_leaf (turned c.read.new.self.work c.read.result) c.args.self.now.known.nodes c.want.new.self.known.nodes op leaf c.want.new.work c.in-Page.addr c.in-Page.peek (place_of c.of_page-place.result)
     (c.want.ensures.op.0 ∙ ap (λ (w : Work). w.op) new) wants.job_is (sym c.in-Page.is ∙ wants.next_is) c.of_page-place.ensures c.want.ensures.kept.0 c.read.ensures.reads
+
+-- Want of memory
+
+pub returns-in_err-want-clause-left_catalog : goal.returns-in_err-want-clause-left_catalog
+returns-in_err-want-clause-left_catalog c = any_err c.from_residual.result _ c.want.ensures.kept.1
+
+pub returns-in-Catalog-clause-left_catalog : goal.returns-in-Catalog-clause-left_catalog
+returns-in-Catalog-clause-left_catalog c =
+    any_err c.read_catalog.result _ (ap (λ (k : Known). k.catalog) c.read_catalog.ensures.known ∙ c.want.ensures.kept.1)
+
+pub returns-in-Page-clause-left_catalog : goal.returns-in-Page-clause-left_catalog
+returns-in-Page-clause-left_catalog c =
+    any_err c.read.result _ (ap (λ (k : Known). k.catalog) c.read.ensures.known ∙ c.want.ensures.kept.1)
+
+pub returns-in-Count-clause-left_catalog : goal.returns-in-Count-clause-left_catalog
+returns-in-Count-clause-left_catalog c =
+    any_err c.read-in-Count.result _ (ap (λ (k : Known). k.catalog) c.read-in-Count.ensures.known ∙ c.want.ensures.kept.1)
+
+pub returns-in-Plan-clause-left_catalog : goal.returns-in-Plan-clause-left_catalog
+returns-in-Plan-clause-left_catalog c =
+    any_err c.issue.result _ (ap (λ (k : Known). k.catalog) c.issue.ensures.known ∙ c.want.ensures.kept.1)
+
+pub returns-in-Fails-clause-left_catalog : goal.returns-in-Fails-clause-left_catalog
+returns-in-Fails-clause-left_catalog c =
+    err_then c.fail.result _ _ (λ same. same ∙ c.want.ensures.kept.1) c.fail.ensures.left_catalog
+
+-- A first try that failed
+
+pub returns-in_err-want-clause-first : goal.returns-in_err-want-clause-first
+returns-in_err-want-clause-first c = λ zero.
+    none_made _ c.from_residual.result (λ turn. IsSecond turn → FailsAsKept c.args.self.now.known c.args.work) c.from_residual.ensures.0
+
+pub returns-in-Catalog-clause-first : goal.returns-in-Catalog-clause-first
+returns-in-Catalog-clause-first c = λ zero.
+    issues_first c.want.new.work _ _ (turned c.read_catalog.new.self.work c.read_catalog.result) _ (c.want.ensures.op.1 ∙ zero) c.read_catalog.ensures.reads
+
+pub returns-in-Page-clause-first : goal.returns-in-Page-clause-first
+returns-in-Page-clause-first c = λ zero.
+    reads_first c.in-Page.peek c.want.new.work _ _ (turned c.read.new.self.work c.read.result) _ (c.want.ensures.op.1 ∙ zero) c.read.ensures.reads
+
+pub returns-in-Count-clause-first : goal.returns-in-Count-clause-first
+returns-in-Count-clause-first c = λ zero.
+    reads_first c.in-Count.peek c.want.new.work _ _ (turned c.read-in-Count.new.self.work c.read-in-Count.result) _ (c.want.ensures.op.1 ∙ zero) c.read-in-Count.ensures.reads
+
+pub returns-in-Plan-clause-first : goal.returns-in-Plan-clause-first
+returns-in-Plan-clause-first c = λ zero.
+    issues_first c.want.new.work _ _ (turned c.issue.new.self.work c.issue.result) _ (c.want.ensures.op.1 ∙ zero) c.issue.ensures.issues
+
+pub returns-in-Fails-clause-first : goal.returns-in-Fails-clause-first
+returns-in-Fails-clause-first c = λ zero.
+    ok_any (turned c.fail.new.self.work c.fail.result) _ (λ turn second. (
+      c.want.new.self.known,
+      c.want.new.work,
+      c.in-Fails.cause,
+      c.want.ensures.kept,
+      subst (λ (n : Next). WantsNext c.want.new.self.known c.args.work c.want.new.work n) c.in-Fails.is c.in_ok-want.ensures.wants,
+    ))
+
+pub returns-in-Answers-clause-first : goal.returns-in-Answers-clause-first
+returns-in-Answers-clause-first c = λ zero.
+    subst (λ (t : Turn). IsSecond t → FailsAsKept c.args.self.now.known c.args.work)
+    (ends_when c.want.new.self.work c.in-Answers.answer (kept_idle c.args.self.now c.want.new.self c.want.ensures.same c.want.ensures.kept c.requires.idle).1)
+    (λ second. absurd second)

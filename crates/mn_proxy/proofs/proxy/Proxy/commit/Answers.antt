@@ -7,17 +7,24 @@ use Rattle.mn_proxy.specs.Agrees.{MayWant}
 use Rattle.mn_proxy.specs.Measure.{GoesBelow, left_after}
 use Rattle.mn_proxy.specs.Turns.{IsCommitted, IsSoundTurn, TurnAgrees, read_alone}
 use Rattle.mn_proxy.proofs.Coordinating.{committed_read, done_read, on_err, plan_answered, read_may_want}
-use Rattle.std.proofs.Common.{Ok, Result, Some, ap}
+use Rattle.std.proofs.Common.{ℕ, List, Ok, Option, Result, Some, ap}
+use Rattle.std.specs.Prelude.{IfOk, MatchOption}
+use Rattle.mn_proxy.specs.Firsts.{FailsAsRead, IsSecond}
 use Rattle.mn_base.specs.declared.error.NoMemory.{NoMemory}
 use Rattle.mn_proxy.specs.declared.errand.Purpose.{Purpose}
 use Rattle.mn_proxy.specs.Turn.{Turn}
 use Rattle.mn_proxy.specs.Kept.{read_for}
 use Rattle.mn_work.specs.Walks.{is_later}
-use Rattle.mn_proxy.proofs.Kept.{cache_as, catalog_as, catalog_stays, leaf_as, read_none, read_some, unread_cache, unread_catalog, unread_leaf}
+use Rattle.mn_proxy.proofs.Kept.{cache_as, catalog_as, catalog_stays, leaf_as, left_as, left_unread, read_none, read_some, reads_unless, unread_cache, unread_catalog, unread_leaf}
 use Rattle.mn_proxy.proofs.proxy.Proxy.commit.Goals as goal
 
 pub take_copy-requires : goal.take_copy-requires
-take_copy-requires c = record { idle = c.requires.idle; few = c.requires.few; waits = c.requires.waits }
+take_copy-requires c = record {
+  idle = c.requires.idle;
+  few = c.requires.few;
+  waits = c.requires.waits;
+  reads = reads_unless c.args.purpose c.in_default.not-Plan;
+}
 
 pub returns-in-Plan-clause-sound : goal.returns-in-Plan-clause-sound
 returns-in-Plan-clause-sound c = subst (IsSoundTurn c.args.self.now.known) (ends_when c.args.self.now.work (answers.Replied c.in-Plan.reply) c.requires.idle) tt
@@ -73,6 +80,12 @@ returns-in-Some c =
       catalog = catalog_as (read_for c.args.purpose c.args.reads.now) (Some (c.args.purpose, c.in-Some.bytes.now))
           c.args.self.now.known.catalog c.take_copy.new.self.known.catalog (turned c.take_copy.new.self.work c.take_copy.result)
           (read_some c.args.purpose c.args.reads.now c.in-Some.bytes.now c.in_default.not-Plan whole) c.take_copy.ensures.catalog;
+      left_catalog = left_as c.take_copy.result (read_for c.args.purpose c.args.reads.now) (Some (c.args.purpose, c.in-Some.bytes.now))
+          c.args.self.now.known.catalog c.take_copy.new.self.known.catalog
+          (read_some c.args.purpose c.args.reads.now c.in-Some.bytes.now c.in_default.not-Plan whole) c.take_copy.ensures.left_catalog;
+      first = λ zero.
+          subst (λ (read : Option (Purpose × List ℕ)). IfOk (turned c.take_copy.new.self.work c.take_copy.result) (λ turn. IsSecond turn → MatchOption read ⊥ (FailsAsRead c.args.self.now.known c.args.work)))
+          (sym (read_some c.args.purpose c.args.reads.now c.in-Some.bytes.now c.in_default.not-Plan whole)) (c.take_copy.ensures.first zero);
       leaf = leaf_as c.args.self.now.known c.args.work (read_for c.args.purpose c.args.reads.now) (Some (c.args.purpose, c.in-Some.bytes.now)) (turned c.take_copy.new.self.work c.take_copy.result)
           (read_some c.args.purpose c.args.reads.now c.in-Some.bytes.now c.in_default.not-Plan whole) c.take_copy.ensures.leaf;
     }
@@ -93,5 +106,14 @@ returns-in-None c =
       cache = unread_cache (read_for c.args.purpose c.args.reads.now) (is_later c.args.work.failed) c.args.self.now.known.cache c.args.self.now.known.cache (Err _)
           (read_none c.args.purpose c.args.reads.now nothing) refl;
       catalog = tt;
+      left_catalog = left_unread (read_for c.args.purpose c.args.reads.now) c.args.self.now.known.catalog c.args.self.now.known.catalog
+          (read_none c.args.purpose c.args.reads.now nothing) refl;
+      first = λ zero. tt;
       leaf = λ leaf. tt;
     }
+
+pub returns-in-Plan-clause-first : goal.returns-in-Plan-clause-first
+returns-in-Plan-clause-first c = λ zero.
+    subst (λ (t : Turn). IsSecond t → MatchOption (read_for c.args.purpose c.args.reads.now) ⊥ (FailsAsRead c.args.self.now.known c.args.work))
+    (ends_when c.args.self.now.work (answers.Replied c.in-Plan.reply) c.requires.idle)
+    (λ second. absurd second)

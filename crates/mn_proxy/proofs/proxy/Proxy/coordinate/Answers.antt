@@ -21,7 +21,12 @@ use Rattle.mn_proxy.specs.declared.errand.Purpose.{Purpose}
 use Rattle.mn_proxy.specs.Turn.{Turn}
 use Rattle.mn_proxy.specs.Kept.{read_for, read_when}
 use Rattle.mn_work.specs.Walks.{is_later}
-use Rattle.mn_proxy.proofs.Kept.{cache_as, catalog_as, catalog_stays, leaf_as, unread_cache, unread_catalog, unread_leaf}
+use Rattle.mn_proxy.proofs.Kept.{cache_as, catalog_as, catalog_stays, err_then, leaf_as, left_as, left_unread, unread_cache, unread_catalog, unread_leaf}
+use Rattle.mn_proxy.proofs.Lacking.{commits_none, doubts_none, failed_refused}
+use Rattle.std.proofs.lemmas.Result.{IfOk-weaker}
+use Rattle.std.specs.Prelude.{IfOk, MatchOption}
+use Rattle.mn_proxy.specs.Firsts.{FailsAsRead, IsRefusal, IsSecond}
+use Rattle.mn_proxy.proofs.Firsts.{some_of}
 use Rattle.mn_proxy.proofs.proxy.Proxy.coordinate.Goals as goal
 
 pub next-requires : goal.next-requires
@@ -185,3 +190,67 @@ pub returns-in-Doubt-clause-leaf : goal.returns-in-Doubt-clause-leaf
 returns-in-Doubt-clause-leaf c = λ leaf.
     absurd (unread_leaf c.args.self.now.known c.args.work (read_when (step_of c.args.coordinator) c.args.coordinator.reads c.args.purpose)
     (read_as c.args.coordinator c.args.purpose (Doubt c.in-Doubt.node) (sym c.next.ensures.step ∙ c.in-Doubt.is)) leaf)
+
+-- Want of memory
+
+pub refuse-requires-clause-failed : goal.refuse-requires-clause-failed
+refuse-requires-clause-failed c = λ none.
+    failed_refused c.args.coordinator c.in-Failed.node (sym c.next.ensures.step ∙ c.in-Failed.is)
+    (sym (c.into_outcome.ensures.reply ∙ ap (λ (x : Coordination). x.refused) (c.next.ensures.after ∙ ap (after_step c.args.coordinator) c.in-Failed.is)) ∙ none)
+
+pub returns-in-Committed-clause-left_catalog : goal.returns-in-Committed-clause-left_catalog
+returns-in-Committed-clause-left_catalog c =
+    left_as c.commit.result (read_when (step_of c.args.coordinator) c.args.coordinator.reads c.args.purpose) (read_for c.args.purpose c.reads.result.now) c.args.self.now.known.catalog c.commit.new.self.known.catalog
+    (read_as c.args.coordinator c.args.purpose Committed (sym c.next.ensures.step ∙ c.in-Committed.is)
+    ∙ ap (read_for c.args.purpose) (sym (c.reads.ensures ∙ ap (λ (x : Coordination). x.reads) (c.next.ensures.after ∙ ap (after_step c.args.coordinator) c.in-Committed.is))))
+    c.commit.ensures.left_catalog
+
+pub returns-in-Failed-clause-left_catalog : goal.returns-in-Failed-clause-left_catalog
+returns-in-Failed-clause-left_catalog c =
+    err_then c.refuse.result _ _
+    (left_unread (read_when (step_of c.args.coordinator) c.args.coordinator.reads c.args.purpose) c.args.self.now.known.catalog c.refuse.new.self.known.catalog
+    (read_as c.args.coordinator c.args.purpose (Failed c.in-Failed.node) (sym c.next.ensures.step ∙ c.in-Failed.is))) c.refuse.ensures.left_catalog
+
+pub returns-in-Committed-clause-lacks : goal.returns-in-Committed-clause-lacks
+returns-in-Committed-clause-lacks c = λ none.
+    absurd (commits_none c.args.coordinator none (sym c.next.ensures.step ∙ c.in-Committed.is))
+
+pub returns-in-Failed-clause-lacks : goal.returns-in-Failed-clause-lacks
+returns-in-Failed-clause-lacks c = λ none.
+    c.refuse.ensures.lacks
+    (c.into_outcome.ensures.reply ∙ ap (λ (x : Coordination). x.refused) (c.next.ensures.after ∙ ap (after_step c.args.coordinator) c.in-Failed.is) ∙ none)
+
+pub returns-in-Doubt-clause-lacks : goal.returns-in-Doubt-clause-lacks
+returns-in-Doubt-clause-lacks c = λ none.
+    absurd (doubts_none c.args.coordinator c.in-Doubt.node none (sym c.next.ensures.step ∙ c.in-Doubt.is))
+
+-- A first try that failed
+
+pub returns-in-Committed-clause-first : goal.returns-in-Committed-clause-first
+returns-in-Committed-clause-first c = λ es own m zero.
+    subst (λ (read : Option (Purpose × List ℕ)). IfOk (turned c.commit.new.self.work c.commit.result) (λ turn. IsSecond turn → MatchOption read (IsRefusal c.args.coordinator.refused) (FailsAsRead c.args.self.now.known c.args.work)))
+    (sym (read_as c.args.coordinator c.args.purpose Committed (sym c.next.ensures.step ∙ c.in-Committed.is)
+    ∙ ap (read_for c.args.purpose) (sym (c.reads.ensures ∙ ap (λ (x : Coordination). x.reads) (c.next.ensures.after ∙ ap (after_step c.args.coordinator) c.in-Committed.is)))))
+    (IfOk-weaker (turned c.commit.new.self.work c.commit.result) _ _
+    (λ turn failing second. some_of (read_for c.args.purpose c.reads.result.now) (IsRefusal c.args.coordinator.refused) (FailsAsRead c.args.self.now.known c.args.work) (failing second)) (c.commit.ensures.first zero))
+
+pub returns-in-Failed-clause-first : goal.returns-in-Failed-clause-first
+returns-in-Failed-clause-first c = λ es own m zero.
+    let p = c.args.self.now in
+    let same = c.next.ensures.after ∙ ap (after_step c.args.coordinator) c.in-Failed.is in
+    subst (λ (read : Option (Purpose × List ℕ)). IfOk (turned c.refuse.new.self.work c.refuse.result) (λ turn. IsSecond turn → MatchOption read (IsRefusal c.args.coordinator.refused) (FailsAsRead c.args.self.now.known c.args.work)))
+    (sym (read_as c.args.coordinator c.args.purpose (Failed c.in-Failed.node) (sym c.next.ensures.step ∙ c.in-Failed.is)))
+    (IfOk-weaker (turned c.refuse.new.self.work c.refuse.result) _ _
+    (λ turn failing second. subst IsRefusal (c.into_outcome.ensures.reply ∙ ap (λ (x : Coordination). x.refused) same) (failing second))
+    (c.refuse.ensures.first es
+    (subst (λ (r : Option NodeReply). IsRefused es p.known c.args.work c.args.tid c.into_outcome.result.mini c.in-Failed.node r)
+    (sym (c.into_outcome.ensures.reply ∙ ap (λ (x : Coordination). x.refused) same))
+    (subst (λ (x : Mini). IsRefused es p.known c.args.work c.args.tid x c.in-Failed.node c.args.coordinator.refused)
+    (sym (c.into_outcome.ensures.mini ∙ ap (λ (x : Coordination). x.mini) same))
+    (mini_fails es p c.args.work c.args.tid c.args.coordinator c.args.purpose c.in-Failed.node own m c.requires.waits (sym c.next.ensures.step ∙ c.in-Failed.is))))))
+
+pub returns-in-Doubt-clause-first : goal.returns-in-Doubt-clause-first
+returns-in-Doubt-clause-first c = λ es own m zero.
+    subst (λ (t : Turn). IsSecond t → MatchOption (read_when (step_of c.args.coordinator) c.args.coordinator.reads c.args.purpose) (IsRefusal c.args.coordinator.refused) (FailsAsRead c.args.self.now.known c.args.work))
+    (ends_when c.args.self.now.work (answers.InDoubt c.args.tid c.in-Doubt.node) c.requires.idle)
+    (λ second. absurd second)

@@ -1,12 +1,13 @@
 use Rattle.std.proofs.Common.{◌≡◌, ◌≤◌, subst, sym, ◌∙◌}
-use Rattle.mn_proxy.specs.Agrees.{Agrees, HasOut}
+use Rattle.mn_proxy.specs.Agrees.{Agrees, HasOut, HasOutIn}
 use Rattle.mn_proxy.specs.Measure.{steps_left}
 use Rattle.mn_proxy.specs.State.{IsOut, ProxyState}
 use Rattle.mn_proxy.specs.contracts.proxy.Proxy.{the_view}
 use Rattle.mn_proxy.specs.Turns.{OwesNoDecide, with_work}
 use Rattle.mn_proxy.proofs.Feeding.{fed_in, fed_work, feed_agrees, feed_unanswered, sound_of}
 use Rattle.mn_proxy.proofs.Measure.{feed_falls}
-use Rattle.std.proofs.Common.{Some, ap}
+use Rattle.std.proofs.Common.{Option, Some, ap}
+use Rattle.mn_proxy.proofs.Lacking.{feed_lacks}
 use Rattle.mn_coord.specs.Coordination.{Coordination}
 use Rattle.mn_proxy.specs.declared.errand.Errand.{Errand}
 use Rattle.mn_proxy.specs.declared.errand.Errand.TheVariants as out
@@ -22,6 +23,8 @@ invariant_of-self-2 c = record {
   nodes = c.self.invariant.nodes;
   pages = c.self.invariant.pages;
   work = fed_work c.self.inside.known c.in-Some.field-0-0 c.in-Some.errand c.feed.new.self c.args.reply
+      (λ node request has. c.requires.fits node request
+      (subst (λ (o : Option (Work × Errand)). HasOutIn o node request) (sym c.in-Some.is ∙ ap (λ (p : ProxyState). p.work) c.self.view_is) has))
       (sound_of c.self.inside.known c.self.inside.work c.in-Some.field-0-0 c.in-Some.errand c.in-Some.is c.self.invariant.work) c.feed.ensures;
 }
 
@@ -74,3 +77,10 @@ returns-clause-fed c = λ work tid x purpose under.
     ap (λ (w : Work). Some (w, c.feed.new.self)) begun.0
     ∙ (ap (λ (e : Errand). Some (work, e)) d.1
     ∙ ap (λ (y : Coordination). Some (work, out.Mini tid y purpose)) d.2.fed_is)
+
+-- Want of memory
+
+pub returns-clause-lacks : goal.returns-clause-lacks
+returns-clause-lacks c = λ es a none owes.
+    feed_lacks (the_view c.self.inside) c.in-Some.field-0-0 c.in-Some.errand c.feed.new.self c.args.reply c.in-Some.is c.feed.ensures es
+    (subst (Agrees es) (sym c.self.view_is) a) none (subst OwesNoDecide (sym c.self.view_is) owes)

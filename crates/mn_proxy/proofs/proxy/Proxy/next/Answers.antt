@@ -5,12 +5,15 @@ use Rattle.mn_proxy.specs.Agrees.{Agrees}
 use Rattle.mn_proxy.specs.State.{ProxyState}
 use Rattle.mn_proxy.specs.Measure.{Falls}
 use Rattle.mn_proxy.specs.Turns.{with_work}
-use Rattle.mn_proxy.proofs.Turning.{goes_sound, goes_wants, turn_errand, turn_own}
-use Rattle.mn_proxy.proofs.Turned.{turned_agree, turned_cache, turned_catalog, turned_ends, turned_falls, turned_left, turned_legal, turned_reads, turned_sound, turned_wants}
+use Rattle.mn_proxy.proofs.Turning.{goes_sound, goes_wants, on_error, turn_errand, turn_own}
+use Rattle.mn_proxy.proofs.Lacking.{sent_gives_up}
+use Rattle.mn_proxy.specs.Firsts.{FailsFirst}
+use Rattle.mn_proxy.proofs.Firsts.{sent_first, turned_first}
+use Rattle.mn_proxy.proofs.Turned.{none_goes, turned_agree, turned_cache, turned_catalog, turned_ends, turned_falls, turned_left, turned_legal, turned_lost, turned_reads, turned_sound, turned_wants}
 use Rattle.mn_proxy.specs.Turn.{turned}
-use Rattle.std.specs.Prelude.{IfOk}
+use Rattle.std.specs.Prelude.{IfOk, OnErr}
 use Rattle.std.proofs.Common.{◌≡◌}
-use Rattle.mn_proxy.specs.Kept.{CacheGoes, CatalogGoes, read_by}
+use Rattle.mn_proxy.specs.Kept.{CacheGoes, CatalogGoes, CatalogLeft, read_by}
 use Rattle.mn_proxy.specs.LeafReads.{ReadsLeaf}
 use Rattle.mn_proxy.specs.Turn as turns
 use Rattle.mn_proxy.specs.declared.step.ProxyStep.TheVariants as steps
@@ -20,7 +23,7 @@ use Rattle.mn_proxy.specs.declared.errand.Errand.TheVariants as out
 use Rattle.std.proofs.Common.{None}
 use Rattle.mn_work.specs.Works.{new_work}
 use Rattle.mn_proxy.specs.Agrees.{Wants}
-use Rattle.mn_proxy.specs.Turns.{IsEnd, IsSent, IsSentWholeIn, KeepsSelf}
+use Rattle.mn_proxy.specs.Turns.{GivesUp, IsEnd, IsSent, IsSentWholeIn, KeepsSelf, LacksIn}
 use Rattle.mn_proxy.proofs.Kept.{unread_leaf}
 use Rattle.mn_proxy.proofs.Sending.{sent_unread, step_caches, step_calls, step_catalogs, step_falls, turn_agrees, turn_sound, under_sent}
 use Rattle.mn_proxy.proofs.proxy.Proxy.next.Goals as goal
@@ -142,3 +145,41 @@ returns-in-Some-clause-leaf c = λ work errand under leaf.
     let same = under_sent c.args.self.now c.send.new.self c.in-Some.step s work errand under in
     absurd (unread_leaf c.args.self.now.known work (read_by errand)
     (subst (λ (e : Errand). read_by e ≡ None) same.1 (sent_unread s.errand s.sent_now c.in-Some.step s.sent)) leaf)
+
+-- Want of memory
+
+pub returns-in-Some-take-clause-over : goal.returns-in-Some-take-clause-over
+returns-in-Some-take-clause-over c =
+    on_error c.turn.result (IsSentWholeIn c.args.self.now.work) (c.send.ensures.whole c.in-None.is)
+
+pub returns-in-Some-take-clause-lacks : goal.returns-in-Some-take-clause-lacks
+returns-in-Some-take-clause-lacks c = λ lacks.
+    none_goes c.turn.result GivesUp
+    (c.turn.ensures.lacks
+    (subst LacksIn (sym (c.in-Some-take.ensures.value ∙ ap (λ (p : ProxyState). p.work) (c.self.view_is ∙ c.send.ensures.same c.in-None.is))) lacks))
+
+pub returns-in-Some-take-clause-left_catalog : goal.returns-in-Some-take-clause-left_catalog
+returns-in-Some-take-clause-left_catalog c =
+    subst (λ (p : ProxyState). OnErr c.turn.result (CatalogLeft p c.turn.new.self)) (c.self.view_is ∙ c.send.ensures.same c.in-None.is)
+    (turned_lost (the_view c.self.inside) c.turn.new.self c.in-Some-take.work c.in-Some-take.errand (sym c.in-Some-take.ensures.value) c.turn.result c.turn.ensures.left_catalog)
+
+pub returns-in-Some-clause-lacks : goal.returns-in-Some-clause-lacks
+returns-in-Some-clause-lacks c = λ lacks.
+    let s = c.in-Some.ensures.sends in
+    sent_gives_up s.work s.errand s.sent_now c.in-Some.step s.sent (subst LacksIn s.under lacks)
+
+-- A first try that failed
+
+pub returns-in-Some-take-clause-first : goal.returns-in-Some-take-clause-first
+returns-in-Some-take-clause-first c = λ es agrees.
+    subst (λ (p : ProxyState). IfOk c.turn.result (λ step. FailsFirst p c.turn.new.self)) (c.self.view_is ∙ c.send.ensures.same c.in-None.is)
+    (turned_first (the_view c.self.inside) c.turn.new.self c.in-Some-take.work c.in-Some-take.errand (sym c.in-Some-take.ensures.value)
+    c.turn.new.self.work c.turn.result refl
+    (c.turn.ensures.first es
+    (turn_own es (the_view c.self.inside) c.args.self.now c.take.new.self (c.self.view_is ∙ c.send.ensures.same c.in-None.is) agrees)
+    (turn_errand es (the_view c.self.inside) c.args.self.now c.in-Some-take.work c.in-Some-take.errand (c.self.view_is ∙ c.send.ensures.same c.in-None.is) (sym c.in-Some-take.ensures.value) agrees)))
+
+pub returns-in-Some-clause-first : goal.returns-in-Some-clause-first
+returns-in-Some-clause-first c = λ es agrees.
+    let s = c.in-Some.ensures.sends in
+    sent_first c.args.self.now c.send.new.self s.work s.errand s.under s.sent_now (ap (λ (p : ProxyState). p.work) s.after_is)

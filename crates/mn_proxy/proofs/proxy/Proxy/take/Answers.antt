@@ -24,7 +24,10 @@ use Rattle.mn_work.specs.Walks.{is_later}
 use Rattle.mn_work.specs.Works.{IsJobOf}
 use Rattle.mn_work.specs.declared.work.Work.{Work}
 use Rattle.mn_proxy.proofs.LeafReads.{leaf_next}
-use Rattle.mn_proxy.proofs.Kept.{cache_last, cache_left, cache_then, came_op, catalog_next, catalog_stays, never_later}
+use Rattle.std.proofs.lemmas.Result.{IfOk-weaker}
+use Rattle.mn_proxy.specs.Firsts.{FailsAsKept, FailsAsRead, IsSecond}
+use Rattle.mn_proxy.proofs.Firsts.{ok_any, read_fails}
+use Rattle.mn_proxy.proofs.Kept.{cache_last, cache_left, cache_then, came_op, catalog_next, catalog_stays, left_next, never_later}
 use Rattle.mn_proxy.proofs.proxy.Proxy.take.Goals as goal
 
 pub taken_for-requires-clause-pages : goal.taken_for-requires-clause-pages
@@ -283,3 +286,53 @@ returns-in-Replies-clause-leaf c = λ leaf.
     let both : Taken.Replies c.in-Replies.reply ≡ Taken.Replies (values_at leaf.page leaf.key) = sym c.in-Replies.is ∙ replies in
     let same : c.in-Replies.reply ≡ values_at leaf.page leaf.key = cc in
     sym (ends_when (the_view c.self.inside).work (answers.Replied c.in-Replies.reply) (ap (λ (p : ProxyState). p.work) c.self.view_is ∙ c.requires.idle)) ∙ ap (λ (r : Reply). turns.Ends (answers.Replied r)) same
+
+-- Want of memory
+
+pub returns-in_err-taken_for-clause-left_catalog : goal.returns-in_err-taken_for-clause-left_catalog
+returns-in_err-taken_for-clause-left_catalog c =
+    left_next (the_view c.self.inside) c.args.self.now c.self.view_is c.from_residual.result c.taken_for.new.known c.args.purpose c.args.bytes c.taken_for.new.known.catalog c.taken_for.ensures.leaves
+    (none_left c.from_residual.result _ refl)
+
+pub returns-in-GoesOn-clause-left_catalog : goal.returns-in-GoesOn-clause-left_catalog
+returns-in-GoesOn-clause-left_catalog c =
+    left_next (the_view c.self.inside) c.args.self.now c.self.view_is c.advance.result c.taken_for.new.known c.args.purpose c.args.bytes c.advance.new.self.known.catalog c.taken_for.ensures.leaves c.advance.ensures.left_catalog
+
+pub returns-in-Leaf-clause-left_catalog : goal.returns-in-Leaf-clause-left_catalog
+returns-in-Leaf-clause-left_catalog c =
+    left_next (the_view c.self.inside) c.args.self.now c.self.view_is c.advance-in-Leaf.result c.taken_for.new.known c.args.purpose c.args.bytes c.advance-in-Leaf.new.self.known.catalog c.taken_for.ensures.leaves c.advance-in-Leaf.ensures.left_catalog
+
+pub returns-in-Fails-clause-left_catalog : goal.returns-in-Fails-clause-left_catalog
+returns-in-Fails-clause-left_catalog c =
+    left_next (the_view c.self.inside) c.args.self.now c.self.view_is c.fail.result c.taken_for.new.known c.args.purpose c.args.bytes c.fail.new.self.known.catalog c.taken_for.ensures.leaves c.fail.ensures.left_catalog
+
+-- A first try that failed
+
+pub returns-in_err-taken_for-clause-first : goal.returns-in_err-taken_for-clause-first
+returns-in_err-taken_for-clause-first c = λ zero.
+    none_made _ c.from_residual.result (λ turn. IsSecond turn → FailsAsRead c.args.self.now.known c.args.work (c.args.purpose, c.args.bytes)) c.from_residual.ensures.0
+
+pub returns-in-GoesOn-clause-first : goal.returns-in-GoesOn-clause-first
+returns-in-GoesOn-clause-first c = λ zero.
+    IfOk-weaker (turned c.advance.new.self.work c.advance.result) _ _
+    (λ turn failing second. read_fails (the_view c.self.inside) c.args.self.now c.self.view_is c.taken_for.new.known c.args.work c.taken_for.new.work c.args.purpose c.args.bytes c.in_ok-taken_for.field-0 Taken.GoesOn c.in-GoesOn.is c.in_ok-taken_for.ensures.came (failing second))
+    (c.advance.ensures.first
+    (came_op (the_view c.self.inside).known c.taken_for.new.known c.args.work c.taken_for.new.work c.args.purpose c.args.bytes c.in_ok-taken_for.field-0 c.in_ok-taken_for.ensures.came ∙ zero))
+
+pub returns-in-Leaf-clause-first : goal.returns-in-Leaf-clause-first
+returns-in-Leaf-clause-first c = λ zero.
+    IfOk-weaker (turned c.advance-in-Leaf.new.self.work c.advance-in-Leaf.result) _ _
+    (λ turn failing second. read_fails (the_view c.self.inside) c.args.self.now c.self.view_is c.taken_for.new.known c.args.work c.taken_for.new.work c.args.purpose c.args.bytes c.in_ok-taken_for.field-0 Taken.Leaf c.in-Leaf.is c.in_ok-taken_for.ensures.came
+    (subst (λ (w : Work). FailsAsKept c.taken_for.new.known (record w { failed = 0 })) c.get_mut.ensures.same (failing second)))
+    (c.advance-in-Leaf.ensures.first refl)
+
+pub returns-in-Replies-clause-first : goal.returns-in-Replies-clause-first
+returns-in-Replies-clause-first c = λ zero.
+    subst (λ (t : Turn). IsSecond t → FailsAsRead c.args.self.now.known c.args.work (c.args.purpose, c.args.bytes))
+    (ends_when (the_view c.self.inside).work (answers.Replied c.in-Replies.reply) (ap (λ (p : ProxyState). p.work) c.self.view_is ∙ c.requires.idle))
+    (λ second. absurd second)
+
+pub returns-in-Fails-clause-first : goal.returns-in-Fails-clause-first
+returns-in-Fails-clause-first c = λ zero.
+    ok_any (turned c.fail.new.self.work c.fail.result) _ (λ turn second.
+    read_fails (the_view c.self.inside) c.args.self.now c.self.view_is c.taken_for.new.known c.args.work c.taken_for.new.work c.args.purpose c.args.bytes c.in_ok-taken_for.field-0 (Taken.Fails c.in-Fails.cause) c.in-Fails.is c.in_ok-taken_for.ensures.came tt)

@@ -5,12 +5,14 @@ use Rattle.mn_proxy.specs.Agrees.{ErrandAgrees, MayWant}
 use Rattle.mn_proxy.proofs.Coordinating.{on_err, rest_may_want}
 use Rattle.std.specs.Prelude.{IfOk}
 use Rattle.mn_proxy.specs.Measure.{GoesBelow, steps_left}
-use Rattle.mn_proxy.specs.Turns.{with_work}
+use Rattle.mn_proxy.specs.Firsts.{FailsBy, IsSecond}
+use Rattle.mn_proxy.specs.State.{IsOutIn}
+use Rattle.mn_proxy.specs.Turns.{IsSoundErrand, LacksIn, with_work}
 use Rattle.mn_proxy.proofs.Measure.{errand_goes}
-use Rattle.std.proofs.Common.{None, ap, refl, ◌∙◌}
+use Rattle.std.proofs.Common.{None, Some, ap, ◌∙◌}
 use Rattle.mn_proxy.specs.Kept.{read_by}
 use Rattle.mn_work.specs.Walks.{is_later}
-use Rattle.mn_proxy.proofs.Kept.{cache_as, catalog_as, leaf_as, unread_cache, unread_leaf}
+use Rattle.mn_proxy.proofs.Kept.{cache_as, catalog_as, err_then, leaf_as, left_as, left_unread, unread_leaf}
 use Rattle.mn_proxy.proofs.proxy.Proxy.turn.Goals as goal
 
 pub returns-in-Nothing-clause-want : goal.returns-in-Nothing-clause-want
@@ -23,10 +25,6 @@ pub returns-in-Nothing-clause-left : goal.returns-in-Nothing-clause-left
 returns-in-Nothing-clause-left c = λ es own rest.
     c.advance.ensures.left es
     (own, (subst (λ (e : Errand). ErrandAgrees es c.args.self.now.known c.args.work e) c.in-Nothing.is rest).0.last.0)
-
-pub returns-in-Peek-clause-left : goal.returns-in-Peek-clause-left
-returns-in-Peek-clause-left c = λ es own rest.
-    (own, (subst (λ (e : Errand). ErrandAgrees es c.args.self.now.known c.args.work e) c.in-Peek.is rest).0.0.last.0)
 
 pub returns-in-Nothing-clause-falls : goal.returns-in-Nothing-clause-falls
 returns-in-Nothing-clause-falls c =
@@ -59,10 +57,6 @@ returns-in-Nothing-clause-path c = λ op leaf new nothing path. c.advance.ensure
 pub returns-in-Nothing-clause-leaf : goal.returns-in-Nothing-clause-leaf
 returns-in-Nothing-clause-leaf c = λ leaf.
     absurd (unread_leaf c.args.self.now.known c.args.work (read_by c.args.errand) (ap read_by c.in-Nothing.is) leaf)
-
-pub returns-in-Peek-clause-cache : goal.returns-in-Peek-clause-cache
-returns-in-Peek-clause-cache c =
-    unread_cache (read_by c.args.errand) (is_later c.args.work.failed) c.args.self.now.known.cache c.args.self.now.known.cache _ (ap read_by c.in-Peek.is) refl
 
 pub returns-in-Peeked-clause-cache : goal.returns-in-Peeked-clause-cache
 returns-in-Peeked-clause-cache c =
@@ -99,3 +93,68 @@ returns-in-Mini-clause-path c = λ op leaf new nothing path.
 pub returns-in-Mini-clause-leaf : goal.returns-in-Mini-clause-leaf
 returns-in-Mini-clause-leaf c =
     leaf_as c.args.self.now.known c.args.work (read_by c.args.errand) _ (turned c.coordinate.new.self.work c.coordinate.result) (ap read_by c.in-Mini.is) c.coordinate.ensures.leaf
+
+-- What is on its way is sound
+
+pub take_peeked-requires-clause-waits : goal.take_peeked-requires-clause-waits
+take_peeked-requires-clause-waits c =
+    (subst (IsSoundErrand c.args.self.now.known c.args.work) c.in-Peeked.is c.requires.sound.errand_is).0
+
+pub take_peeked-requires-clause-reads : goal.take_peeked-requires-clause-reads
+take_peeked-requires-clause-reads c =
+    (subst (IsSoundErrand c.args.self.now.known c.args.work) c.in-Peeked.is c.requires.sound.errand_is).1
+
+pub take_peeked-requires-clause-fits : goal.take_peeked-requires-clause-fits
+take_peeked-requires-clause-fits c =
+    (subst (IsSoundErrand c.args.self.now.known c.args.work) c.in-Peeked.is c.requires.sound.errand_is).2
+
+pub unreachable-requires : goal.unreachable-requires
+unreachable-requires c =
+    c.requires.ready (subst (λ (e : Errand). IsOutIn (Some (c.args.work, e))) (sym c.in-Peek.is) tt)
+
+-- Want of memory
+
+pub returns-in-Nothing-clause-left_catalog : goal.returns-in-Nothing-clause-left_catalog
+returns-in-Nothing-clause-left_catalog c =
+    err_then c.advance.result _ _
+    (left_unread (read_by c.args.errand) c.args.self.now.known.catalog c.advance.new.self.known.catalog (ap read_by c.in-Nothing.is)) c.advance.ensures.left_catalog
+
+pub returns-in-Peeked-clause-left_catalog : goal.returns-in-Peeked-clause-left_catalog
+returns-in-Peeked-clause-left_catalog c =
+    left_as c.take_peeked.result (read_by c.args.errand) _ c.args.self.now.known.catalog c.take_peeked.new.self.known.catalog
+    (ap read_by c.in-Peeked.is) c.take_peeked.ensures.left_catalog
+
+pub returns-in-Mini-clause-left_catalog : goal.returns-in-Mini-clause-left_catalog
+returns-in-Mini-clause-left_catalog c =
+    left_as c.coordinate.result (read_by c.args.errand) _ c.args.self.now.known.catalog c.coordinate.new.self.known.catalog
+    (ap read_by c.in-Mini.is) c.coordinate.ensures.left_catalog
+
+pub returns-in-Nothing-clause-lacks : goal.returns-in-Nothing-clause-lacks
+returns-in-Nothing-clause-lacks c = λ lacks.
+    absurd (subst (λ (e : Errand). LacksIn (Some (c.args.work, e))) c.in-Nothing.is lacks)
+
+pub returns-in-Peeked-clause-lacks : goal.returns-in-Peeked-clause-lacks
+returns-in-Peeked-clause-lacks c = λ lacks.
+    c.take_peeked.ensures.lacks (subst (λ (e : Errand). LacksIn (Some (c.args.work, e))) c.in-Peeked.is lacks)
+
+pub returns-in-Mini-clause-lacks : goal.returns-in-Mini-clause-lacks
+returns-in-Mini-clause-lacks c = λ lacks.
+    c.coordinate.ensures.lacks (subst (λ (e : Errand). LacksIn (Some (c.args.work, e))) c.in-Mini.is lacks).0
+
+-- A first try that failed
+
+pub returns-in-Nothing-clause-first : goal.returns-in-Nothing-clause-first
+returns-in-Nothing-clause-first c = λ es own rest zero.
+    subst (λ (e : Errand). IfOk (turned c.advance.new.self.work c.advance.result) (λ turn. IsSecond turn → FailsBy c.args.self.now.known c.args.work e))
+    (sym c.in-Nothing.is) (c.advance.ensures.first zero)
+
+pub returns-in-Peeked-clause-first : goal.returns-in-Peeked-clause-first
+returns-in-Peeked-clause-first c = λ es own rest zero.
+    subst (λ (e : Errand). IfOk (turned c.take_peeked.new.self.work c.take_peeked.result) (λ turn. IsSecond turn → FailsBy c.args.self.now.known c.args.work e))
+    (sym c.in-Peeked.is) (c.take_peeked.ensures.first zero)
+
+pub returns-in-Mini-clause-first : goal.returns-in-Mini-clause-first
+returns-in-Mini-clause-first c = λ es own rest zero.
+    subst (λ (e : Errand). IfOk (turned c.coordinate.new.self.work c.coordinate.result) (λ turn. IsSecond turn → FailsBy c.args.self.now.known c.args.work e))
+    (sym c.in-Mini.is)
+    (c.coordinate.ensures.first es own (subst (λ (e : Errand). ErrandAgrees es c.args.self.now.known c.args.work e) c.in-Mini.is rest) zero)
