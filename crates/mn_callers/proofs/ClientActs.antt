@@ -1,6 +1,6 @@
 -- What a client does at an act is what the act says of its own list.
-use Rattle.std.proofs.Common.{◌≡◌, ◌≢◌, ℕ, ◌+◌, Bool, true, false, not, ◌&&◌, ◌||◌, nat_lt, IsTrue, List, [], ◌∷◌, ◌++◌, length, Option, Some, None, Result, Ok, Err, is_some, refl, sym, ap, ◌∙◌, subst, inl, inr}
-use Rattle.std.specs.Prelude.{MatchBool, OnOk, slice_get}
+use Rattle.std.proofs.Common.{◌≡◌, ◌≢◌, ℕ, ◌+◌, Bool, true, false, not, ◌&&◌, ◌||◌, nat_lt, IsTrue, List, [], ◌∷◌, ◌++◌, length, Option, Some, None, Result, Ok, Err, is_some, refl, sym, ap, ◌∙◌, subst, inl, inr, arith, length-append}
+use Rattle.std.specs.Prelude.{◌⊎◌, ◌<◌, MatchBool, OnOk, slice_get}
 use Rattle.std.specs.List.{AllByRecursion}
 use Rattle.std.proofs.lemmas.List.{append_assoc}
 use Rattle.mn_base.specs.declared.ids.ClientNo.{ClientNo}
@@ -21,11 +21,12 @@ use Rattle.mn_runs.specs.Lists.{ClientState}
 use Rattle.mn_runs.specs.Protocol.{IsOwnStep, Start, entries_of}
 use Rattle.mn_hist.specs.Points.{may_stop}
 use Rattle.mn_proxy.specs.State.{ProxyState}
+use Rattle.mn_proxy.specs.Turns.{LacksMemory}
 use Rattle.mn_callers.specs.declared.client.Call.{Call}
 use Rattle.mn_callers.specs.declared.client.Client.{Client}
 use Rattle.mn_callers.specs.Acts.{AreOwn, Begins, BeginsOp, CallsOnce, CallsOrLacks, CallsWhile, GoesByItself, IsUnderWay, Lacks, Role, Works, as_role, has_work, is_at_work, is_own, is_plan_due}
 use Rattle.mn_callers.specs.Clients.{IsClient, IsOfRun, past_of}
-use Rattle.mn_callers.specs.Going.{HasAnswer, MayMake, is_planned}
+use Rattle.mn_callers.specs.Going.{HasAnswer, IsLonger, MayMake, is_planned}
 use Rattle.mn_callers.specs.Points.{has_died}
 use Rattle.mn_callers.specs.Steps.{Adds, own_entry}
 use Rattle.mn_callers.proofs.ClientSteps.{longer, out_works, ready_last}
@@ -84,10 +85,29 @@ pub issues_one : (start : Start) (old mid new : Client) (tid : Tid) (mini : Mini
 issues_one start old mid new tid mini step adds same = subst (λ (l : List Entry). GoesByItself old.list.client (past_of old) l) (sym same) (by_one start old.list mid.list old.proxy (Issue tid mini) step adds)
 
 -- of a reply that is no entry this is so
-pub if_lacking : {T E : Type 0} (reply : NodeReply) (answered : Bool) (r : Result T E) (P : Type 0) → MatchBool answered (reply ≢ Say.NoMemory) (reply ≡ Say.NoMemory) → (answered ≡ false → OnOk r P) → OnOk r (reply ≡ Say.NoMemory → P)
-if_lacking reply answered (Err e) P is so = tt
-if_lacking reply true (Ok x) P is so = λ none. absurd (is none)
-if_lacking reply false (Ok x) P is so = λ none. so refl
+pub when_lacking : {T E : Type 0} (r : Result T E) (reply : NodeReply) (L P Q : Type 0) → (reply ≡ Say.NoMemory → L) → (L → OnOk r P) → (P → Q) → OnOk r (reply ≡ Say.NoMemory → Q)
+when_lacking (Err e) reply L P Q lacks so then = tt
+when_lacking (Ok x) reply L P Q lacks so then = λ none. then (so (lacks none))
+
+-- Its list is longer
+
+pub added_longer : (e : Entry) (old new : ClientState) → Adds e old new → length (entries_of old.entries) < length (entries_of new.entries)
+added_longer e old new adds =
+    subst (λ (l : List Entry). length (entries_of old.entries) < length l) (sym (longer e old new adds)) (omega arith)
+
+pub longer_differs : (es new : List Entry) → length es < length new → new ≢ es
+longer_differs es new more same = let alike = ap (λ (l : List Entry). length l) same in omega arith
+
+pub still_longer : (first mid new : Client) → (LacksMemory first.proxy → (mid ≡ first) ⊎ IsLonger first mid)
+    → (LacksMemory mid.proxy → IsLonger mid new) → GoesByItself mid.list.client (past_of mid) (past_of new)
+    → LacksMemory first.proxy → IsLonger first new
+still_longer first mid new so own goes lacks = by (so lacks)
+  where
+    by : (mid ≡ first) ⊎ IsLonger first mid → IsLonger first new
+    by (inl same) =
+        subst (λ (k : Client). IsLonger k new) same (own (subst (λ (k : Client). LacksMemory k.proxy) (sym same) lacks))
+    by (inr more) =
+        let long = ap (λ (l : List Entry). length l) goes.new_is ∙ length-append goes.own (past_of mid) in omega arith
 
 pub both_ok : {T E : Type 0} (r : Result T E) (P Q R : Type 0) → (P → Q → R) → OnOk r P → OnOk r Q → OnOk r R
 both_ok (Ok x) P Q R f p q = f p q

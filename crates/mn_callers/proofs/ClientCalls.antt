@@ -286,8 +286,20 @@ plain_out (Some (work, out.Peek place purpose)) node request has = subst (λ (r 
 plain_out (Some (work, out.Peeked place reply purpose)) node request has = absurd has
 plain_out (Some (work, out.Mini tid c purpose)) node request has = plain_at c (stage_in c) node request has.1
 
+-- one request is out
+same_out : (work : Option (Work × Errand)) (node other : NodeNo) (request asked : Request) → HasOutIn work node request → HasOutIn work other asked → request ≡ asked
+same_out None node other request asked has also = absurd has
+same_out (Some (work, out.Nothing)) node other request asked has also = absurd has
+same_out (Some (work, out.Peek place purpose)) node other request asked has also = has.1 ∙ sym also.1
+same_out (Some (work, out.Peeked place reply purpose)) node other request asked has also = absurd has
+same_out (Some (work, out.Mini tid c purpose)) node other request asked has also = let both = sym has.1 ∙ also.1 in cc
+
+-- so the reply fits it, by whatever name
+pub fits_out : (work : Option (Work × Errand)) (node : NodeNo) (request : Request) (reply : NodeReply) → HasOutIn work node request → Fits request reply → (other : NodeNo) (asked : Request) → HasOutIn work other asked → Fits asked reply
+fits_out work node request reply has fits other asked also = subst (λ (r : Request). Fits r reply) (same_out work node other request asked has also) fits
+
 -- where the request that is out is other decision
-owes_none : (work : Option (Work × Errand)) (node : NodeNo) (request : Request) → HasOutIn work node request → (IsDecide request → ⊥) → OwesNoneIn work
+pub owes_none : (work : Option (Work × Errand)) (node : NodeNo) (request : Request) → HasOutIn work node request → (IsDecide request → ⊥) → OwesNoneIn work
 owes_none None node request has other = tt
 owes_none (Some (work, out.Nothing)) node request has other = tt
 owes_none (Some (work, out.Peek place purpose)) node request has other = tt

@@ -98,6 +98,10 @@ pub record MayMake (start : Start) (list : ClientState) (p : ProxyState) (what :
 abbrev pub MakesStep : Start → Client → What → Type 0
 MakesStep start c what = MayMake start c.list c.proxy what × (issue_in what ≡ [])
 
+-- its list has more entries
+abbrev pub IsLonger : Client → Client → Type 0
+IsLonger old new = length (past_of old) < length (past_of new)
+
 -- Steps of its proxy
 
 -- the proxy handed out the step, which the list allows, and with which the proxy agrees

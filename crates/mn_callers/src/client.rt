@@ -9,14 +9,15 @@ ghost use Rattle.mn_mini.specs.RecordGrammar.{IsTid};
 ghost use Rattle.mn_mini.specs.Sound.{Fits, IsDecide, IsSoundRequest};
 ghost use Rattle.mn_proxy.specs.Measure.{Falls, steps_left};
 ghost use Rattle.mn_proxy.specs.State.{ProxyState};
+ghost use Rattle.mn_proxy.specs.Turns.{GivesUp, LacksMemory};
 ghost use Rattle.mn_runs.specs.Protocol.{Start, run_number, start_nodes};
 ghost use Rattle.mn_callers.specs.Acts.{BeginsOp, CallsOnce, DoesAll, DoesGo, DoesPlan, DoesStep};
 ghost use Rattle.mn_callers.specs.Acts.{GoesByItself, IsUnderWay, as_role, has_work};
 ghost use Rattle.mn_callers.specs.Clients.{HasProxy, IsAtSteps, IsClient, MayCallNext, IsOfRun};
 ghost use Rattle.mn_callers.specs.Clients.{past_of};
 ghost use Rattle.mn_callers.specs.Going.{BeginsAtMost, BeginsIfIdle, HasAnswer, HasFewer, HasGone};
-ghost use Rattle.mn_callers.specs.Going.{HasList, IsSameBut, IsSameButRoom, IsUnnoted, KeepsOrder};
-ghost use Rattle.mn_callers.specs.Going.{KeepsPoints, MakesStep, MayAdd, MayTake};
+ghost use Rattle.mn_callers.specs.Going.{HasList, IsLonger, IsSameBut, IsSameButRoom, IsUnnoted};
+ghost use Rattle.mn_callers.specs.Going.{KeepsOrder, KeepsPoints, MakesStep, MayAdd, MayTake};
 ghost use Rattle.mn_callers.specs.Going.{is_planned, ops_left, work_left};
 ghost use Rattle.mn_callers.specs.Hands.{HasTurn, MovesOn, hand_of};
 ghost use Rattle.mn_callers.specs.Points.{has_died};
@@ -246,6 +247,7 @@ impl Client {
         ensures same { IsSameBut self.old self.new }
         ensures own { OnOk result (GoesByItself self.old.list.client
             (past_of self.old) (past_of self.new)) }
+        ensures longer { OnOk result (IsLonger self.old self.new) }
     {
         self.add(table, pass, what)
     }
@@ -318,6 +320,7 @@ impl Client {
         ensures went { IfOk result (λ went. HasGone X.start self.new went) }
         ensures own { OnOk result (GoesByItself self.old.list.client
             (past_of self.old) (past_of self.new)) }
+        ensures longer { GivesUp step → OnOk result (IsLonger self.old self.new) }
         ensures begun { self.new.begun ≡ self.old.begun }
         ensures falls { (before : ProxyState) → Falls before self.old.proxy step
             → IfOk result (HasFewer (steps_left before) self.new) }
@@ -361,6 +364,7 @@ impl Client {
         ensures went { IfOk result (λ went. HasGone X.start self.new went) }
         ensures own { OnOk result (GoesByItself self.old.list.client
             (past_of self.old) (past_of self.new)) }
+        ensures longer { LacksMemory self.old.proxy → OnOk result (IsLonger self.old self.new) }
         ensures begun { self.new.begun ≡ self.old.begun }
         ensures falls { IfOk result (HasFewer (steps_left self.old.proxy) self.new) }
     {
@@ -375,7 +379,8 @@ impl Client {
         }
     }
 
-    /// Makes the steps of its own up to the next call, or to the answer.
+    /// Makes the steps of its own up to the next call, or to the answer: after a reply that there
+    /// is no memory at least one.
     fn go_on<X: Transport>(
         &mut self,
         alloc: Global,
@@ -392,6 +397,7 @@ impl Client {
         ensures of_run { OnErr result (IsOfRun X.start points.now self.new) }
         ensures own { OnOk result (GoesByItself self.old.list.client
             (past_of self.old) (past_of self.new)) }
+        ensures longer { LacksMemory self.old.proxy → OnOk result (IsLonger self.old self.new) }
         ensures begun { self.new.begun ≡ self.old.begun }
         ensures falls { OnOk result (work_left self.new ≤ steps_left self.old.proxy) }
     {
@@ -401,40 +407,6 @@ impl Client {
                 Went::On => {}
             }
         }
-    }
-
-    /// Goes on after a call that was answered, or that found no memory. Want of memory ends a try:
-    /// a step of its own follows, or the run ends.
-    fn go_on_from<X: Transport>(
-        &mut self,
-        alloc: Global,
-        table: &mut X,
-        pass: &mut Pass<CoreLaw>,
-        points: &[Point],
-        answered: bool,
-    ) -> Result<(), NoMemory>
-        requires turn { HasTurn X.board (X.ready table.old) (hand_of pass.old self.old.list) }
-        requires steps { IsAtSteps X.start points.now self.old }
-        ensures turn { HasTurn X.board (X.ready table.new) (hand_of pass.new self.new.list) }
-        ensures goes_on { MovesOn (X.went table.old table.new)
-            (hand_of pass.old self.old.list) (hand_of pass.new self.new.list) }
-        ensures client { OnOk result (IsClient X.start points.now self.new) }
-        ensures of_run { OnErr result (IsOfRun X.start points.now self.new) }
-        ensures own { OnOk result (GoesByItself self.old.list.client
-            (past_of self.old) (past_of self.new)) }
-        ensures some { answered ≡ false → OnOk result (past_of self.new ≢ past_of self.old) }
-        ensures begun { self.new.begun ≡ self.old.begun }
-        ensures falls { OnOk result (work_left self.new ≤ steps_left self.old.proxy) }
-    {
-        let before = self.list.as_slice().len();
-        self.go_on(alloc, table, pass, points)?;
-        if answered {
-            return Ok(());
-        }
-        if self.list.as_slice().len() > before {
-            return Ok(());
-        }
-        Err(NoMemory)
     }
 
     /// Begins its next operation. NoMemory: there was no memory to begin it; the run ends.
@@ -656,9 +628,8 @@ impl Client {
         if self.has_died(points) {
             return Ok(());
         }
-        let answered = is_entry(&reply);
         self.proxy.feed(reply);
-        self.go_on_from(alloc, table, pass, points, answered)
+        self.go_on(alloc, table, pass, points)
     }
 
     /// One call, of an operation that is begun if none is under way; nothing where there is no

@@ -1,15 +1,15 @@
-use Rattle.std.proofs.Common.{subst, refl, ◌∙◌, arith}
+use Rattle.std.proofs.Common.{subst, refl, ◌∙◌, arith, inl, inr}
 use Rattle.mn_callers.specs.declared.client.Went.{Went}
 use Rattle.mn_callers.specs.Going.{HasFewer, HasGone, work_left}
 use Rattle.mn_callers.proofs.Hands.{moves_further, moves_nowhere}
-use Rattle.mn_callers.proofs.ClientActs.{by_more, by_none}
+use Rattle.mn_callers.proofs.ClientActs.{by_more, by_none, still_longer}
 use Rattle.mn_proxy.specs.Measure.{steps_left}
 use Rattle.mn_callers.proofs.ClientEnds.{no_more, still_fewer}
 use Rattle.mn_callers.proofs.ClientSteps.{steps_list, steps_rest, still_steps}
 use Rattle.mn_callers.proofs.client.Client.go_on.Goals as goal
 
 pub loop-init : goal.loop-init
-loop-init g c = record { turn = c.requires.turn; goes_on = moves_nowhere g.X.Transport.went g.met.X.Transport.stays _ _; steps = c.requires.steps; own = by_none _ _; begun = refl; fewer = omega arith }
+loop-init g c = record { turn = c.requires.turn; goes_on = moves_nowhere g.X.Transport.went g.met.X.Transport.stays _ _; steps = c.requires.steps; own = by_none _ _; begun = refl; fewer = omega arith; longer = λ lacks. inl refl }
 
 pub own_step-requires-clause-list : goal.own_step-requires-clause-list
 own_step-requires-clause-list g c = steps_list g.X.Transport.start c.args.points.now c.loop.self c.loop.invariant.steps
@@ -38,7 +38,13 @@ loop-preserved g c =
       begun = c.own_step.ensures.begun ∙ c.loop.invariant.begun;
       fewer = still_fewer (steps_left new.proxy) (steps_left c.loop.self.proxy) (steps_left c.args.self.now.proxy) c.loop.invariant.fewer
           (subst (λ (w : Went). HasFewer (steps_left c.loop.self.proxy) new w) c.in-On.is c.in_ok-own_step.ensures.falls);
+      longer = λ lacks.
+          inr (still_longer c.args.self.now c.loop.self new c.loop.invariant.longer c.in_ok-own_step.ensures.longer c.in_ok-own_step.ensures.own lacks);
     }
+
+pub returns-in-Rests-clause-longer : goal.returns-in-Rests-clause-longer
+returns-in-Rests-clause-longer g c =
+    still_longer c.args.self.now c.loop.self c.own_step.new.self c.loop.invariant.longer c.in_ok-own_step.ensures.longer c.in_ok-own_step.ensures.own
 
 pub returns-in-Rests-clause-own : goal.returns-in-Rests-clause-own
 returns-in-Rests-clause-own g c = by_more _ _ _ _ _ c.loop.invariant.goes_on.client c.loop.invariant.own c.in_ok-own_step.ensures.own

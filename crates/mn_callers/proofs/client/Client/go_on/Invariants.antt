@@ -1,7 +1,9 @@
-use Rattle.std.proofs.Common.{◌≤◌, ◌≡◌}
+use Rattle.std.proofs.Common.{◌≤◌, ◌≡◌, ◌⊎◌}
 use Rattle.mn_proxy.specs.Measure.{steps_left}
+use Rattle.mn_proxy.specs.Turns.{LacksMemory}
 use Rattle.mn_callers.specs.Acts.{GoesByItself}
 use Rattle.mn_callers.specs.Clients.{IsAtSteps, past_of}
+use Rattle.mn_callers.specs.Going.{IsLonger}
 use Rattle.mn_callers.specs.Hands.{HasTurn, MovesOn, hand_of}
 use Rattle.mn_callers.proofs.client.Client.go_on.Given as goal
 
@@ -14,6 +16,7 @@ invariant-loop g l = record {
   own : GoesByItself l.fn.self.list.client (past_of l.fn.self) (past_of l.self);
   begun : l.self.begun ≡ l.fn.self.begun;
   fewer : steps_left l.self.proxy ≤ steps_left l.fn.self.proxy;
+  longer : LacksMemory l.fn.self.proxy → (l.self ≡ l.fn.self) ⊎ IsLonger l.fn.self l.self;
 }
 
 abbrev pub decreases-loop : goal.decreases-loop

@@ -1,7 +1,7 @@
 use Rattle.mn_callers.specs.Clients.{HasProxy, past_of}
-use Rattle.mn_callers.specs.Going.{HasList, KeepsPoints}
+use Rattle.mn_callers.specs.Going.{HasList, IsLonger, KeepsPoints}
 use Rattle.mn_callers.specs.Steps.{own_entry}
-use Rattle.mn_callers.proofs.ClientActs.{by_one}
+use Rattle.mn_callers.proofs.ClientActs.{added_longer, by_one}
 use Rattle.mn_callers.proofs.ClientSteps.{as_same, in_both, kept_list, kept_points, made_list, made_points, made_proxy, on_ok, same_issues}
 use Rattle.mn_callers.proofs.client.Client.make.Goals as goal
 
@@ -34,3 +34,9 @@ pub returns-clause-own : goal.returns-clause-own
 returns-clause-own g c =
     let old = c.args.self.now in
     on_ok c.add.result _ _ (λ adds. by_one g.X.Transport.start old.list c.add.new.self.list old.proxy c.args.what c.requires.step.0 adds) c.add.ensures.added
+
+pub returns-clause-longer : goal.returns-clause-longer
+returns-clause-longer g c =
+    let old = c.args.self.now in
+    let new = c.add.new.self in
+    on_ok c.add.result _ _ (λ adds. as_same (IsLonger old) (record old { list = new.list }) new c.add.ensures.same (added_longer (own_entry old.list.client c.args.what) old.list new.list adds)) c.add.ensures.added

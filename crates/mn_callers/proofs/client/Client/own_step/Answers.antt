@@ -19,3 +19,6 @@ make-requires-clause-step g c =
 
 pub returns-in-Ok-clause-falls : goal.returns-in-Ok-clause-falls
 returns-in-Ok-clause-falls g c = c.take_step.ensures.falls c.args.self.now.proxy c.in-Ok.ensures.falls
+
+pub returns-in-Ok-clause-longer : goal.returns-in-Ok-clause-longer
+returns-in-Ok-clause-longer g c = λ lacks. c.take_step.ensures.longer (c.in-Ok.ensures.lacks lacks)

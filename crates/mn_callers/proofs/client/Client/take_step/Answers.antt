@@ -1,5 +1,6 @@
 use Rattle.std.proofs.Common.{refl, subst, ap, ◌∙◌}
 use Rattle.mn_proxy.specs.Measure.{Falls, steps_left}
+use Rattle.mn_proxy.specs.Turns.{GivesUp}
 use Rattle.mn_proxy.specs.declared.step.ProxyStep.{ProxyStep}
 use Rattle.mn_callers.specs.declared.client.Client.{Client}
 use Rattle.mn_callers.specs.Going.{MayTake}
@@ -73,3 +74,17 @@ returns-in-Call-clause-falls g c = λ before falls.
 pub returns-in_ok-make-in-Done-clause-falls : goal.returns-in_ok-make-in-Done-clause-falls
 returns-in_ok-make-in-Done-clause-falls g c = λ before falls.
     none_rests c.make-in-Done.new.self (steps_left before) (ap (λ (k : Client). k.due) c.make-in-Done.ensures.same ∙ c.requires.none_due)
+
+-- Only what is given up makes its list longer, whatever comes then
+
+pub returns-in_ok-issue-in-Issue-clause-longer : goal.returns-in_ok-issue-in-Issue-clause-longer
+returns-in_ok-issue-in-Issue-clause-longer g c = λ gives. absurd (subst GivesUp c.in-Issue.is gives)
+
+pub returns-in_ok-make-in-Abandon-clause-longer : goal.returns-in_ok-make-in-Abandon-clause-longer
+returns-in_ok-make-in-Abandon-clause-longer g c = λ gives. c.in_ok-make-in-Abandon.ensures.longer
+
+pub returns-in-Call-clause-longer : goal.returns-in-Call-clause-longer
+returns-in-Call-clause-longer g c = λ gives. absurd (subst GivesUp c.in-Call.is gives)
+
+pub returns-in_ok-make-in-Done-clause-longer : goal.returns-in_ok-make-in-Done-clause-longer
+returns-in_ok-make-in-Done-clause-longer g c = λ gives. absurd (subst GivesUp c.in-Done.is gives)
