@@ -43,7 +43,8 @@ def reads() -> str:
 
 
 def run(program: str, words: list[str], text: str = "") -> tuple[int, str]:
-    done = subprocess.run([program, *words], input=text.encode(), stdout=subprocess.PIPE, timeout=600)
+    done = subprocess.run(
+        [program, *words], input=text.encode(), stdout=subprocess.PIPE, timeout=600)
     return done.returncode, done.stdout.decode()
 
 
