@@ -6,7 +6,8 @@
 Each round runs a script by `run 4` on one folder: four clients, each of which writes a number to
 eight keys of its own by transactions, the next number each time. The process is killed by signal 9
 at a random moment. Then `check` must write `check yes`, and a script that reads the keys must find
-one number in all eight of a client, no older than the last that an ended run had answered. It tells
+one number in all eight of a client, or none in any, no older than what was there before. After the
+first run, which isn't killed, that is the last that it answered `ok`: others may be busy. It tells
 each round that is wrong, and ends with 1 if there is one.
 """
 import random
@@ -18,6 +19,7 @@ import time
 from progress import Progress
 
 NODES, CLIENTS, KEYS, WRITES = 4, 4, 8, 60
+NAMES = [f"w{client}" for client in range(CLIENTS)]
 
 
 def keys_of(client: int) -> list[str]:
@@ -28,7 +30,7 @@ def writes(first: int) -> str:
     """Each client writes these numbers one after another."""
     lines = [f"nodes {NODES}"]
     for client in range(CLIENTS):
-        lines.append(f"client w{client}")
+        lines.append(f"client {NAMES[client]}")
         for number in range(first, first + WRITES):
             steps = " ; ".join(f"put {key} {number}" for key in keys_of(client))
             lines.append(f"tx main {steps}")
@@ -58,12 +60,18 @@ def found(report: str) -> list[list[str]]:
     return rows
 
 
-def seconds_of(program: str, folder: str) -> float:
-    """How long a run takes that isn't killed. It writes numbers from 0 on."""
+def whole_run(program: str, folder: str) -> tuple[float, list[int]]:
+    """How long a run takes that isn't killed, and the last number of each client that it answered
+    `ok`, or -1. It writes numbers from 0 on."""
     begun = time.monotonic()
     status, report = run(program, ["run", str(NODES), folder], writes(0))
     assert status == 0, report
-    return time.monotonic() - begun
+    seconds, last = time.monotonic() - begun, [-1] * CLIENTS
+    for line in report.split("\n"):
+        words = line.split()
+        if words[:1] and words[0] in NAMES and words[2:] == ["ok"]:
+            last[NAMES.index(words[0])] = int(words[1]) - 1
+    return seconds, last
 
 
 def kill_once(program: str, folder: str, first: int, after: float) -> bool:
@@ -87,10 +95,10 @@ def wrong(program: str, folder: str, least: list[int]) -> str:
     if status != 0 or len(rows) != CLIENTS:
         return f"reads: {report!r}"
     for client, row in enumerate(rows):
-        numbers = {value for value in row}
-        if len(numbers) != 1 or not row[0][1:].isdigit() or int(row[0][1:]) < least[client]:
+        number = -1 if row[0] == "-" else int(row[0][1:])
+        if len(set(row)) != 1 or len(row) != KEYS or number < least[client]:
             return f"client {client}: {row}, at least {least[client]}"
-        least[client] = int(row[0][1:])
+        least[client] = number
     return ""
 
 
@@ -100,8 +108,9 @@ def main() -> int:
     chance = random.Random(int(sys.argv[3]) if len(sys.argv) > 3 else 1)
     bad = running = 0
     with tempfile.TemporaryDirectory() as folder:
-        whole = seconds_of(program, folder)
-        least = [WRITES - 1] * CLIENTS
+        whole, least = whole_run(program, folder)
+        what = wrong(program, folder, least[:])
+        assert not what, what
         progress = Progress("kills", kills)
         for _ in range(kills):
             first = max(least) + 1
