@@ -97,7 +97,8 @@ impl Cache {
     }
 
     /// Keeps the page with its bytes, which becomes the most recently used, in place of an older
-    /// one of its address. Where there would be more than [`CAPACITY`] the least recently used goes.
+    /// one of its address. Where there would be more than [`CAPACITY`], the least recently used
+    /// goes.
     /// NoMemory: there was no memory for it, and the cache is as before.
     pub fn put(&mut self, addr: Addr, spelled: Spelled) -> Result<(), NoMemory>
         requires spelled { spelled.bytes ≡ page_bytes spelled.page }

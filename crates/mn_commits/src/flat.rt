@@ -14,7 +14,8 @@ ghost use Rattle.mn_runs.specs.Commits.{memory_of_outcome, memory_after_commit, 
 ghost use Rattle.mn_runs.specs.Protocol.{entries_of, Start};
 ghost use Rattle.mn_commits.specs.Laws.{IsRunFrom, IsFlatRun};
 ghost use Rattle.mn_commits.specs.Standing.{id_key, vote_key, kept_mini, keeps_vote, kept_request};
-ghost use Rattle.mn_commits.specs.Standing.{issue_after, effect_of_entry, StandingTells, item_holds};
+ghost use Rattle.mn_commits.specs.Standing.{issue_after, effect_of_entry, StandingTells};
+ghost use Rattle.mn_commits.specs.Standing.{item_holds};
 
 use mn_base::{Bytes, NoMemory, NodeNo, Tid, TryCopy};
 use mn_mini::{Item, Minitransaction, NodeReply, Request, Spaces};

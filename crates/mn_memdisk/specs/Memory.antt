@@ -26,8 +26,8 @@ pub record IsCounted (old new : MemoryState) : Type 0 where
   pub faults : new.faults ≡ counted (is_one_of old.calls old.fails) old.faults
   pub fails : new.fails ≡ old.fails
 
--- a disk that stops with others: the disk in memory that it is, whether it has stopped, and how many
--- calls failed
+-- a disk that stops with others: the disk in memory that it is, whether it has stopped, and how
+-- many calls failed
 pub record StopState : Type 0 where
   pub disk : MemoryState
   pub is_stopped : Bool

@@ -90,9 +90,9 @@ fn front_bytes(alloc: Global, node: u8, nodes: u8) -> Result<Vec<u8>, AllocError
     Ok(front)
 }
 
-/// What the space of this node, of so many, begins with: the header, the count, the entry of `main`,
-/// and on node 0 its empty leaf. What follows in the space is zeros. NoMemory: there was no
-/// memory for it.
+/// What the space of this node, of so many, begins with: the header, the count, the entry of
+/// `main`, and on node 0 its empty leaf. What follows in the space is zeros. NoMemory: there was
+/// no memory for it.
 pub fn base_bytes(alloc: Global, node: u8, nodes: u8) -> Result<Vec<u8>, NoMemory>
     requires { 0 < nodes }
     ensures space { IfOk result (λ bytes. padded space_length bytes.items ≡ base_of nodes node) }

@@ -1,6 +1,7 @@
 -- What the bytes of a disk stand for.
 use Rattle.std.specs.Prelude.{◌<◌, ◌≤◌, ◌≡◌, ◌≢◌, ◌⊎◌, ◌^◌, ◌%◌, ℕ, zero, suc, ◌+◌, List, [], ◌∷◌}
-use Rattle.std.specs.Prelude.{◌++◌, length, take, drop, get_or, max, nat_lt, nat_le, if◌then◌else◌, ◌==◌}
+use Rattle.std.specs.Prelude.{◌++◌, length, take, drop, get_or, max, nat_lt, nat_le, if◌then◌else◌}
+use Rattle.std.specs.Prelude.{◌==◌}
 use Rattle.std.specs.Int.{w32, w64, to_be_bytes, from_be_bytes}
 use Rattle.mn_ckpt.specs.Area.{gate_of, image_of}
 

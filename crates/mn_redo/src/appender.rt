@@ -5,7 +5,8 @@ ghost use Rattle.mn_io.specs.DiskModel.{IsStable, LeavesOnly, NoneNew, DiskStays
 ghost use Rattle.mn_io.specs.Faults.{HasCause, Rose};
 ghost use Rattle.mn_redo.specs.Appender.{IsLogOf};
 ghost use Rattle.mn_redo.specs.Grammar.{IsBeforeOrAfter, IsDamaged, IsFresh, IsLog, IsOneOrOther};
-ghost use Rattle.mn_redo.specs.Grammar.{HaveSizes, IsStaged, IsStagedAt, Stands, place_for, records};
+ghost use Rattle.mn_redo.specs.Grammar.{HaveSizes, IsStaged, IsStagedAt, Stands, place_for};
+ghost use Rattle.mn_redo.specs.Grammar.{records};
 ghost use Rattle.mn_redo.specs.Grammar.{total, whole_log};
 ghost use Rattle.mn_redo.specs.Log.{IsFrontKept, listed_in};
 ghost use Rattle.mn_redo.specs.Redo.{HasHeader, StandsFor};

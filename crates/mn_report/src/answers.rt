@@ -1,4 +1,5 @@
-ghost use Rattle.std.specs.Prelude.{◌≡◌, ◌<◌, ◌++◌, length, flat_map, option_map, slice_index, OnOk};
+ghost use Rattle.std.specs.Prelude.{◌≡◌, ◌<◌, ◌++◌, length, flat_map, option_map, slice_index};
+ghost use Rattle.std.specs.Prelude.{OnOk};
 ghost use Rattle.mn_report.specs.Spelling.{spaced, hex_byte};
 ghost use Rattle.mn_report.specs.Answers.{found_text, name_text, state_text, id_text, pair_text};
 ghost use Rattle.mn_report.specs.Answers.{version_text, reply_text, same_before, both_text};

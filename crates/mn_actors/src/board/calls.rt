@@ -1,7 +1,8 @@
 //! What a board does for its passes.
 ghost use Rattle.std.specs.Prelude.{◌≡◌, ◌≤◌, ◌↔◌, [], Some, None, IfOk, IsTrue};
 ghost use Rattle.mn_actors.specs.Lines.{line, IsActor};
-ghost use Rattle.mn_actors.specs.Lists.{held, MayAppend, IsAppended, IsJoined, IsSplit, IsSameLists, Owns, OwnsAll};
+ghost use Rattle.mn_actors.specs.Lists.{held, MayAppend, IsAppended, IsJoined, IsSplit};
+ghost use Rattle.mn_actors.specs.Lists.{IsSameLists, Owns, OwnsAll};
 ghost use Rattle.mn_actors.specs.Log.{IsOneLog};
 ghost use Rattle.mn_actors.specs.Look.{IsOfLog, KnowsAll, knowing};
 ghost use Rattle.mn_actors.specs.Rule.{appended};
@@ -24,8 +25,10 @@ impl<L: Law> Board<L> {
         requires clients { (1 ≤ clients) × (clients ≤ 21) }
         ensures size { IfOk result (λ made. (nodes_of made.0 ≡ nodes) × (clients_of made.0 ≡ clients)) }
         ensures pass { IfOk result (λ made. (board_of made.1 ≡ id_of made.0) × ((view_of made.1).known ≡ 0)) }
-        ensures owns { IfOk result (λ made. (a : Actor) → IsActor nodes clients a → held (view_of made.1) a ≡ Some []) }
-        ensures others { IfOk result (λ made. (a : Actor) → ¬ IsActor nodes clients a → held (view_of made.1) a ≡ None) }
+        ensures owns { IfOk result (λ made. (a : Actor) → IsActor nodes clients a →
+            held (view_of made.1) a ≡ Some []) }
+        ensures others { IfOk result (λ made. (a : Actor) → ¬ IsActor nodes clients a →
+            held (view_of made.1) a ≡ None) }
     {
         let (table, seat) = Table::of_words(alloc, &[0], &Size { nodes, clients })?;
         Ok((Board { table }, Pass { known: 0, seat }))
