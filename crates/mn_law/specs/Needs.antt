@@ -12,10 +12,10 @@ use Rattle.mn_page.specs.Forest.{heads_in}
 use Rattle.mn_page.specs.Overlay.{Held, needed_slots, changed_pages}
 use Rattle.mn_runs.specs.Seen.{Place, Seen}
 use Rattle.mn_law.specs.Places.{page_place, entry_place, catalog_node}
-use Rattle.mn_law.specs.Shown.{SeesCatalog, SeesPage}
+use Rattle.mn_law.specs.Shown.{SeesCatalog, SeesPage, ServesNamed}
 
 -- what a try read of its version: the entry by a catalog that doesn't refuse the operation, and
--- pages at their addresses
+-- pages at their addresses, which serve the version
 pub record ReadsTree (seens : List Seen) (op : Op) : Type 0 where
   pub entries : List CatEntry
   pub catalog : Seen
@@ -26,8 +26,8 @@ pub record ReadsTree (seens : List Seen) (op : Op) : Type 0 where
   pub named : number_named (heads_in entries) (op_version op) ≡ Some version.0
   pub at : slice_get entries version.0 ≡ Some entry
   pub admitted : refusal (heads_in entries) op ≡ None
-  pub read : AllByRecursion (λ h. (seen : Seen) × Contains seens seen × SeesPage seen h.addr h.page)
-      pages
+  pub read : AllByRecursion (λ h. (seen : Seen) × Contains seens seen × SeesPage seen h.addr h.page
+      × ServesNamed entries (op_version op) h.page) pages
 
 -- the splits and copies of the operation on these pages take so many new slots
 abbrev pub NeedsSlots : List Seen → Op → ℕ → Type 0

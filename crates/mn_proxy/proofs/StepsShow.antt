@@ -4,7 +4,7 @@ use Rattle.std.specs.Prelude.{MatchOption}
 use Rattle.std.specs.List.{AllByRecursion}
 use Rattle.byteorder.specs.Endian.{big_bytes}
 use Rattle.std.proofs.lemmas.Option.{slice_get_within}
-use Rattle.mn_base.specs.Store.{step_key}
+use Rattle.mn_base.specs.Store.{number_named, step_key}
 use Rattle.mn_base.specs.Tree.{parents_of}
 use Rattle.mn_base.specs.declared.ids.Addr.{Addr}
 use Rattle.mn_base.specs.declared.ids.NodeNo.{NodeNo}
@@ -31,7 +31,9 @@ use Rattle.mn_law.specs.Answers.{FreeSlots, IsKeyOf, MeetsFault, ShowsBytes, Sho
 use Rattle.mn_law.specs.Needs.{NeedsSlots, ReadsTree, WritesOld}
 use Rattle.mn_runs.specs.Seen.{Place, Seen}
 use Rattle.mn_law.specs.Places.{catalog_node, number_size}
-use Rattle.mn_law.specs.Shown.{SeesCatalog, SeesPage}
+use Rattle.mn_law.specs.Shown.{SeesCatalog, SeesPage, ServesNamed}
+use Rattle.mn_page.specs.Holds.{page_serves}
+use Rattle.mn_tree.specs.Walk.{is_live}
 use Rattle.mn_plans.proofs.Told.{all_there}
 use Rattle.mn_txn.specs.Attempt.{Attempt as Tried}
 use Rattle.mn_txn.specs.Tries.{FreeSlotsAreLeft, TriesShowCauses, WornPagesShow}
@@ -66,14 +68,27 @@ came_pages parents v root d (Does step ∷ moves) after leads =
     came_pages parents v root (drafted_after v d step leads.0) moves after leads.2
 
 -- they were read at their addresses
-came_seen : (seens : List Seen) (came : List Held) → AllByRecursion (λ h. IsPage h.page) came
+came_seen : (seens : List Seen) (entries : List CatEntry) (name : List ℕ) (v : ℕ) (came : List Held)
+    → number_named (heads_in entries) name ≡ Some v → AllByRecursion (λ h. IsPage h.page) came
+    → AllByRecursion (λ h. page_serves entries v h.page ≡ true) came
     → AreBrought seens (map seen_as came)
-    → AllByRecursion (λ h. (seen : Seen) × Contains seens seen × SeesPage seen h.addr h.page) came
-came_seen seens [] pages brought = tt
-came_seen seens (h ∷ came) pages brought = (
-  (seen_page h.addr (page_bytes h.page), brought.0, (refl, (pages.0, refl))),
-  came_seen seens came pages.1 brought.1,
+    → AllByRecursion (λ h. (seen : Seen) × Contains seens seen × SeesPage seen h.addr h.page × ServesNamed entries name h.page) came
+came_seen seens entries name v [] named pages serve brought = tt
+came_seen seens entries name v (h ∷ came) named pages serve brought = (
+  (seen_page h.addr (page_bytes h.page), brought.0, (refl, (pages.0, refl)), (v, named, serve.0)),
+  came_seen seens entries name v came named pages.1 serve.1 brought.1,
 )
+
+-- pages that came in serve the version
+came_serve : (entries : List CatEntry) (v : VersionNo) (root : Addr) (d : Drafted) (moves : List Move)
+    (after : Drafted) → LeadsTo (parents_of (heads_in entries)) v root d moves after
+    → AllByRecursion (λ h. page_serves entries v.0 h.page ≡ true) (comes_in moves)
+unfolding is_live
+came_serve entries v root d [] after leads = tt
+came_serve entries v root d (Comes h ∷ moves) after leads =
+    (leads.0.live, came_serve entries v root (drafted_with d h.addr h.page) moves after leads.1)
+came_serve entries v root d (Does step ∷ moves) after leads =
+    came_serve entries v root (drafted_after v d step leads.0) moves after leads.2
 
 -- one more was brought
 brought_next : (seens : List Seen) (pages : List SeenPage) (p : SeenPage) → AreBrought seens pages
@@ -152,9 +167,11 @@ module _ (nodes : ℕ) (seens : List Seen) (name : List ℕ) (steps : List Step)
     named = admits.named;
     at = admits.there;
     admitted = admits.admitted;
-    read = came_seen seens way.came
+    read = came_seen seens entries name a.version.0 way.came admits.named
         (subst (AllByRecursion (λ h. IsPage h.page)) way.come.pages
         (came_pages (parents_of (heads_in entries)) a.version a.root no_pages way.moves a.overlay.draft way.come.leads))
+        (subst (AllByRecursion (λ h. page_serves entries a.version.0 h.page ≡ true)) way.come.pages
+        (came_serve entries a.version a.root no_pages way.moves a.overlay.draft way.come.leads))
         (subst (AreBrought seens) way.pages brought);
   }
 

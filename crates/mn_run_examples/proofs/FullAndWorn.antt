@@ -1,6 +1,6 @@
 -- Want of slots and want of numbers: what a later try read of a full leaf, of counts and of a last
 -- number shows Full and Worn.
-use Rattle.std.proofs.Common.{◌≡◌, ℕ, zero, suc, ◌^◌, ◌-◌, inl, inr, true, List, [], ◌∷◌, ◌++◌, Some, None, refl, subst, slice_get, lit<, lit≤}
+use Rattle.std.proofs.Common.{◌≡◌, ℕ, zero, suc, ◌^◌, ◌-◌, inl, inr, true, Option, List, [], ◌∷◌, ◌++◌, Some, None, refl, subst, slice_get, lit<, lit≤}
 use Rattle.byteorder.specs.Endian.{big_bytes}
 use Rattle.mn_base.specs.declared.op.Op.{Op}
 use Rattle.mn_base.specs.declared.op.Op.TheVariants.{Snapshot}
@@ -17,7 +17,9 @@ use Rattle.mn_runs.specs.declared.entry.Entry.{Entry}
 use Rattle.mn_law.specs.Places.{page_place, entry_place, count_place, catalog_node, catalog_place}
 use Rattle.mn_law.specs.Needs.{NeedsSlots, WritesOld}
 use Rattle.mn_runs.specs.Seen.{Seen, seen_in}
-use Rattle.mn_law.specs.Shown.{SeesCatalog}
+use Rattle.mn_law.specs.Shown.{SeesCatalog, ServesNamed}
+use Rattle.mn_page.specs.Holds.{page_serves}
+use Rattle.std.specs.Prelude.{IsTrue}
 use Rattle.mn_law.specs.Answers.{FreeSlots, ShowsBytes, is_one_try}
 use Rattle.mn_law.specs.Run.{IsLegalBy}
 use Rattle.mn_run_examples.proofs.TwoNodes.{node}
@@ -78,7 +80,7 @@ two_slots = (
     named = refl;
     at = refl;
     admitted = refl;
-    read = ((seen (page_place (at 1 1)) leaf_bytes, (2, lit< tt, refl), (refl, leaf_spelled)), tt);
+    read = ((seen (page_place (at 1 1)) leaf_bytes, (2, lit< tt, refl), (refl, leaf_spelled), (1, refl, refl)), tt);
   },
   refl,
 )
@@ -106,6 +108,18 @@ full_answered = record {
   );
 }
 
+-- a leaf that was made for a later version is at fault, and counts for none
+abbrev later_leaf : Page
+later_leaf = record leaf { made = version 2 }
+
+unserved_counts_for_none : ServesNamed entries m2.name later_leaf → ⊥
+unserved_counts_for_none (v, named, serves) = by v named serves
+  where
+    by : (v : ℕ) → ◌≡◌ {A = Option ℕ} (Some 1) (Some v) → IsTrue (page_serves entries v later_leaf) → ⊥
+    by zero named serves = absurd cc
+    by (suc zero) named serves = absurd cc
+    by (suc (suc v)) named serves = absurd cc
+
 -- a try reads the catalog with its first call: with that of another try behind it, it is no one try
 abbrev both_tries : List Entry
 both_tries = full_try ++ read 2 (page_place (at 1 1)) leaf_bytes ++ read 1 catalog_place catalog_bytes
@@ -130,7 +144,7 @@ writes_leaf = (
     named = refl;
     at = refl;
     admitted = refl;
-    read = ((seen (page_place (at 1 1)) worn_bytes, (0, lit< tt, refl), (refl, worn_spelled)), tt);
+    read = ((seen (page_place (at 1 1)) worn_bytes, (0, lit< tt, refl), (refl, worn_spelled), (1, refl, refl)), tt);
   },
   inl (at 1 1 ∷ [], at 1 1, refl, (0, lit< tt, refl), refl),
 )
@@ -200,7 +214,7 @@ writes_entry = (
     named = refl;
     at = refl;
     admitted = refl;
-    read = ((seen (page_place (at 1 1)) leaf_bytes, (2, lit< tt, refl), (refl, leaf_spelled)), tt);
+    read = ((seen (page_place (at 1 1)) leaf_bytes, (2, lit< tt, refl), (refl, leaf_spelled), (1, refl, refl)), tt);
   },
   inr refl,
 )
