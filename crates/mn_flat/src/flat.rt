@@ -21,9 +21,9 @@ use crate::held::{Held, hold};
 use crate::known::Table;
 use crate::votes::{Past, Told, is_committed, note, test};
 use crate::write::write_items;
-use mn_base::{Bytes, NoMemory, NodeNo, Tid};
-use mn_mini::{Record, Records, Spaces};
-use mn_page::base_space;
+use mn_base::{NoMemory, NodeNo, Tid};
+use mn_mini::{Record, Records};
+use mn_space::{NodeSpace, NodeSpaces};
 use std::alloc::Global;
 
 /// Notes records behind the others.
@@ -60,7 +60,7 @@ fn told_of<'a>(alloc: Global, records: &'a [Records]) -> Result<Told<'a>, NoMemo
 }
 
 /// Puts in place what a held part writes, if it is held for this id.
-fn write_own(h: &Held<'_>, tid: Tid, space: &mut [u8])
+fn write_own(h: &Held<'_>, tid: Tid, space: &mut NodeSpace)
     ensures { space.new ≡ (if tid_same h.now.tid tid then space_after_part space.old h.now.part.now
         else space.old) }
 {
@@ -70,7 +70,7 @@ fn write_own(h: &Held<'_>, tid: Tid, space: &mut [u8])
 }
 
 /// Puts in place what the parts that are held for an id write, the oldest first.
-fn write_all_of(held: &[Held<'_>], tid: Tid, space: &mut [u8])
+fn write_all_of(held: &[Held<'_>], tid: Tid, space: &mut NodeSpace)
     ensures { space.new ≡ with_held (λ t. tid_same t tid) space.old (parts_seen held.now) }
 {
     for h in held {
@@ -79,7 +79,7 @@ fn write_all_of(held: &[Held<'_>], tid: Tid, space: &mut [u8])
 }
 
 /// Puts in place what a record writes, where these parts are held.
-fn apply(held: &[Held<'_>], record: &Record, space: &mut [u8])
+fn apply(held: &[Held<'_>], record: &Record, space: &mut NodeSpace)
     ensures { (older : List Record) (base : List ℕ) → parts_seen held.now ≡ held_parts older
         → space.old ≡ space_of base older → space.new ≡ space_of base (record.now ∷ older) }
 {
@@ -91,7 +91,7 @@ fn apply(held: &[Held<'_>], record: &Record, space: &mut [u8])
 }
 
 /// Puts in place what a held part writes, if its id is committed.
-fn write_held(told: &Told<'_>, h: &Held<'_>, space: &mut [u8])
+fn write_held(told: &Told<'_>, h: &Held<'_>, space: &mut NodeSpace)
     ensures { space.new ≡ (if list_any
         (says_committed told.now.nodes.items h.now.tid) told.now.nodes.items
         then space_after_part space.old h.now.part.now else space.old) }
@@ -102,7 +102,7 @@ fn write_held(told: &Told<'_>, h: &Held<'_>, space: &mut [u8])
 }
 
 /// Puts in place what the held parts of committed ids write.
-fn write_committed(told: &Told<'_>, held: &[Held<'_>], space: &mut [u8])
+fn write_committed(told: &Told<'_>, held: &[Held<'_>], space: &mut NodeSpace)
     ensures { space.new ≡ with_held
         (λ tid. list_any (says_committed told.now.nodes.items tid) told.now.nodes.items) space.old
         (parts_seen held.now) }
@@ -116,7 +116,7 @@ fn write_committed(told: &Told<'_>, held: &[Held<'_>], space: &mut [u8])
 fn finish<'a>(
     alloc: Global,
     list: &'a [Record],
-    space: &mut [u8],
+    space: &mut NodeSpace,
 ) -> Result<Vec<Held<'a>>, NoMemory>
     ensures space { OnOk result (space.new ≡ space_of space.old (reverse list.now)) }
     ensures held { IfOk result (λ held. parts_seen held.items ≡ held_parts (reverse list.now)) }
@@ -135,7 +135,7 @@ fn test_all(
     alloc: Global,
     told: &Told<'_>,
     held: &[Held<'_>],
-    space: &[u8],
+    space: &NodeSpace,
     node: NodeNo,
     list: &[Record],
 ) -> Result<(), VoteError>
@@ -165,7 +165,7 @@ fn replay(
     told: &Told<'_>,
     node: NodeNo,
     list: &[Record],
-    space: &mut [u8],
+    space: &mut NodeSpace,
 ) -> Result<(), VoteError>
     ensures space { (records : List (List Record)) → IsTold told.now records
         → OnOk result (space.new ≡ with_held (is_committed (length records) (lists_of records))
@@ -190,7 +190,7 @@ fn space_with(
     nodes: u8,
     node: u8,
     list: &[Record],
-) -> Result<Bytes, VoteError>
+) -> Result<NodeSpace, VoteError>
     requires { 0 < nodes }
     ensures space { (records : List (List Record)) → IsTold told.now records
         → IfOk result (λ space. space
@@ -203,9 +203,9 @@ fn space_with(
         → list.now ≡ list_at records (numbered node) → nodes ≡ length records
         → IfErr result (RefusesIn records (numbered node)) }
 {
-    let mut space = base_space(alloc, node, nodes)?;
+    let mut space = NodeSpace::base(alloc, node, nodes)?;
     replay(alloc, told, NodeNo(node), list, &mut space)?;
-    Ok(Bytes::from_vec(space))
+    Ok(space)
 }
 
 /// The flat memory of 1 to 8 nodes with these records, in which every committed minitransaction is
@@ -220,7 +220,7 @@ fn space_with(
 /// conflicts with a held one), or it decides yes where a participant has no vote. Both: it decides
 /// an id that has a decided no, and that is committed or has a decided yes. NoMemory: there was no
 /// memory for it.
-pub fn flat_of(alloc: Global, records: &[Records]) -> Result<Spaces, VoteError>
+pub fn flat_of(alloc: Global, records: &[Records]) -> Result<NodeSpaces, VoteError>
     requires some { 1 ≤ length records.now }
     requires few { length records.now ≤ 8 }
     ensures memory { IfOk result (λ memory. memory ≡ opened_memory (start_of records.now)) }
@@ -240,5 +240,5 @@ pub fn flat_of(alloc: Global, records: &[Records]) -> Result<Spaces, VoteError>
     for (n, list) in records.iter().enumerate() {
         spaces.push(space_with(alloc, &told, nodes, n as u8, list.as_slice())?)?;
     }
-    Ok(Spaces::from_vec(spaces))
+    Ok(NodeSpaces::from_vec(spaces))
 }

@@ -20,6 +20,7 @@ use crate::known::Table;
 use crate::numbers::held_rises;
 use mn_base::{NoMemory, NodeNo, Nodes, Tid};
 use mn_mini::{Part, Record};
+use mn_space::NodeSpace;
 
 /// What the records of all nodes tell.
 #[derive(Drop)]
@@ -115,7 +116,7 @@ fn vote_fits(
 }
 
 /// Whether what is held for the id in the end writes greater numbers, if the id is committed.
-fn vote_rises(told: &Told<'_>, held: &[Held<'_>], space: &[u8], tid: Tid) -> bool
+fn vote_rises(told: &Told<'_>, held: &[Held<'_>], space: &NodeSpace, tid: Tid) -> bool
     ensures { result ≡ (not (list_any
         (says_committed told.now.nodes.items tid) told.now.nodes.items)
         || list_all (λ h. not (tid_same h.tid tid)
@@ -128,7 +129,7 @@ fn vote_rises(told: &Told<'_>, held: &[Held<'_>], space: &[u8], tid: Tid) -> boo
 fn vote_stands(
     told: &Told<'_>,
     held: &[Held<'_>],
-    space: &[u8],
+    space: &NodeSpace,
     past: &Past<'_>,
     node: NodeNo,
     tid: Tid,
@@ -187,7 +188,7 @@ fn decision_fits(told: &Told<'_>, past: &Past<'_>, node: NodeNo, tid: Tid, verdi
 fn keeps_votes(
     told: &Told<'_>,
     held: &[Held<'_>],
-    space: &[u8],
+    space: &NodeSpace,
     past: &Past<'_>,
     node: NodeNo,
     record: &Record,
@@ -238,7 +239,7 @@ fn keeps_decisions(told: &Told<'_>, record: &Record) -> bool
 pub fn test(
     told: &Told<'_>,
     held: &[Held<'_>],
-    space: &[u8],
+    space: &NodeSpace,
     past: &Past<'_>,
     node: NodeNo,
     number: usize,

@@ -23,18 +23,16 @@ pub means : (P Q : Type 0) (b : Bool) → (P → Q) → (Q → P) → MatchBool 
 means P Q true f g p = f p
 means P Q false f g p = λ q. p (g q)
 
-pub header_parts : (memory : List (List ℕ)) (n : ℕ) (space : List ℕ) (a b c : Bool) → space ≡ space_at memory n
-    → MatchBool a (bytes_in space 0 16 ≡ header_bytes (length memory) n) (bytes_in space 0 16 ≡ header_bytes (length memory) n → ⊥)
-    → MatchBool b (bytes_in space 24 40 ≡ zeros 40) (bytes_in space 24 40 ≡ zeros 40 → ⊥) → MatchBool c (bytes_in space 4160 16320 ≡ zeros 16320) (bytes_in space 4160 16320 ≡ zeros 16320 → ⊥)
+pub header_parts : (memory : List (List ℕ)) (n : ℕ) (a b c : Bool)
+    → MatchBool a (bytes_in (space_at memory n) 0 16 ≡ header_bytes (length memory) n) (bytes_in (space_at memory n) 0 16 ≡ header_bytes (length memory) n → ⊥)
+    → MatchBool b (bytes_in (space_at memory n) 24 40 ≡ zeros 40) (bytes_in (space_at memory n) 24 40 ≡ zeros 40 → ⊥)
+    → MatchBool c (bytes_in (space_at memory n) 4160 16320 ≡ zeros 16320) (bytes_in (space_at memory n) 4160 16320 ≡ zeros 16320 → ⊥)
     → MatchBool (a && (b && c)) (HasHeader memory n) (HasHeader memory n → ⊥)
-header_parts memory n space a b c is p q r =
+header_parts memory n a b c p q r =
     let sp = space_at memory n in
-    let p' = subst (λ (s : List ℕ). MatchBool a (bytes_in s 0 16 ≡ header_bytes (length memory) n) (bytes_in s 0 16 ≡ header_bytes (length memory) n → ⊥)) is p in
-    let q' = subst (λ (s : List ℕ). MatchBool b (bytes_in s 24 40 ≡ zeros 40) (bytes_in s 24 40 ≡ zeros 40 → ⊥)) is q in
-    let r' = subst (λ (s : List ℕ). MatchBool c (bytes_in s 4160 16320 ≡ zeros 16320) (bytes_in s 4160 16320 ≡ zeros 16320 → ⊥)) is r in
     means _ (HasHeader memory n) (a && (b && c)) (λ w. record { front = w.0; behind = w.1.0; kept = w.1.1 }) (λ h. (h.front, (h.behind, h.kept)))
-    (both_hold (bytes_in sp 0 16 ≡ header_bytes (length memory) n) ((bytes_in sp 24 40 ≡ zeros 40) × (bytes_in sp 4160 16320 ≡ zeros 16320)) a (b && c) p'
-    (both_hold (bytes_in sp 24 40 ≡ zeros 40) (bytes_in sp 4160 16320 ≡ zeros 16320) b c q' r'))
+    (both_hold (bytes_in sp 0 16 ≡ header_bytes (length memory) n) ((bytes_in sp 24 40 ≡ zeros 40) × (bytes_in sp 4160 16320 ≡ zeros 16320)) a (b && c) p
+    (both_hold (bytes_in sp 24 40 ≡ zeros 40) (bytes_in sp 4160 16320 ≡ zeros 16320) b c q r))
 
 pub entry_parts : (memory : List (List ℕ)) (es : List (Option CatEntry)) (w : ℕ) (a b : Bool) → MatchBool a (IsReadable (entry_place memory 0 w)) (IsReadable (entry_place memory 0 w) → ⊥)
     → MatchBool b (EntryFits es w (entry_of es w)) (EntryFits es w (entry_of es w) → ⊥) → MatchBool (a && b) (HasEntry memory es w) (HasEntry memory es w → ⊥)

@@ -3,14 +3,13 @@ ghost use Rattle.mn_base.specs.Store.{empty_store};
 ghost use Rattle.mn_page.specs.Holds.{Holds};
 ghost use Rattle.mn_forest.specs.Base.{base_memory};
 
-use mn_base::{Bytes, NoMemory};
-use mn_mini::Spaces;
-use mn_page::base_space;
+use mn_base::NoMemory;
+use mn_space::{NodeSpace, NodeSpaces};
 use std::alloc::Global;
 
 /// The memory that so many nodes, 1 to 8, begin with: it holds the store with the empty version
 /// `main` alone. NoMemory: there was no memory for it.
-pub fn base_spaces(alloc: Global, nodes: u8) -> Result<Spaces, NoMemory>
+pub fn base_spaces(alloc: Global, nodes: u8) -> Result<NodeSpaces, NoMemory>
     requires some { 0 < nodes }
     requires few { nodes ≤ 8 }
     ensures memory { IfOk result (λ spaces. spaces ≡ base_memory nodes) }
@@ -18,7 +17,7 @@ pub fn base_spaces(alloc: Global, nodes: u8) -> Result<Spaces, NoMemory>
 {
     let mut spaces = Vec::new(alloc);
     for node in 0..nodes {
-        spaces.push(Bytes::from_vec(base_space(alloc, node, nodes)?))?;
+        spaces.push(NodeSpace::base(alloc, node, nodes)?)?;
     }
-    Ok(Spaces::from_vec(spaces))
+    Ok(NodeSpaces::from_vec(spaces))
 }

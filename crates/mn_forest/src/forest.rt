@@ -18,10 +18,10 @@ use crate::pages::{Names, Versions, has_children, has_page, is_reached};
 use crate::place::{ENTRIES, entry_start, slot_start};
 use crate::shown::store_in;
 use crate::{ForestError, Rule};
-use mn_base::{Addr, Bytes, NoMemory, NodeNo, VersionNo};
-use mn_mini::Spaces;
+use mn_base::{Addr, NoMemory, NodeNo, VersionNo};
 use mn_page::CatEntry;
 use mn_plain::Store;
+use mn_space::{NodeSpace, NodeSpaces};
 use mn_vtree::VersionTree;
 use std::alloc::Global;
 
@@ -43,7 +43,7 @@ fn pass(passes: bool, node: u8, start: usize, rule: Rule) -> Result<(), ForestEr
 }
 
 /// Tests the header and the count of a node.
-fn test_front(spaces: &[Bytes], node: u8) -> Result<(), ForestError>
+fn test_front(spaces: &[NodeSpace], node: u8) -> Result<(), ForestError>
     requires there { node < length spaces.now }
     requires few { length spaces.now ≤ 8 }
     requires whole { AllByRecursion (λ space. length space ≡ space_size) spaces.now }
@@ -56,7 +56,7 @@ fn test_front(spaces: &[Bytes], node: u8) -> Result<(), ForestError>
 }
 
 /// Whether the root of an entry, if there is one, is right.
-fn root_fits(spaces: &[Bytes], entries: &[Option<CatEntry>], version: usize) -> bool
+fn root_fits(spaces: &[NodeSpace], entries: &[Option<CatEntry>], version: usize) -> bool
     requires whole { AllByRecursion (λ space. length space ≡ space_size) spaces.now }
     requires place { version < length entries.now }
     ensures { MatchBool result (HasRootAt spaces.now entries.now 0 version)
@@ -70,7 +70,7 @@ fn root_fits(spaces: &[Bytes], entries: &[Option<CatEntry>], version: usize) -> 
 
 /// Tests an entry of the catalog and its root.
 fn test_entry(
-    spaces: &[Bytes],
+    spaces: &[NodeSpace],
     entries: &[Option<CatEntry>],
     version: usize,
 ) -> Result<(), ForestError>
@@ -90,7 +90,7 @@ fn test_entry(
 }
 
 /// Tests the catalog.
-fn test_catalog(spaces: &[Bytes], entries: &[Option<CatEntry>]) -> Result<(), ForestError>
+fn test_catalog(spaces: &[NodeSpace], entries: &[Option<CatEntry>]) -> Result<(), ForestError>
     requires some { 0 < length spaces.now }
     requires whole { AllByRecursion (λ space. length space ≡ space_size) spaces.now }
     requires says { Says spaces.now entries.now }
@@ -105,7 +105,7 @@ fn test_catalog(spaces: &[Bytes], entries: &[Option<CatEntry>]) -> Result<(), Fo
 }
 
 /// Tests that a node behind the first has the catalog of the first.
-fn test_same_catalog(spaces: &[Bytes], node: u8) -> Result<(), ForestError>
+fn test_same_catalog(spaces: &[NodeSpace], node: u8) -> Result<(), ForestError>
     requires behind { 1 ≤ node }
     requires there { node < length spaces.now }
     requires whole { AllByRecursion (λ space. length space ≡ space_size) spaces.now }
@@ -127,7 +127,7 @@ fn test_same_catalog(spaces: &[Bytes], node: u8) -> Result<(), ForestError>
 
 /// Tests a slot.
 fn test_slot(
-    spaces: &[Bytes],
+    spaces: &[NodeSpace],
     versions: &Versions,
     names: &Names,
     node: u8,
@@ -167,7 +167,7 @@ fn test_slot(
 
 /// Tests the slots of a node.
 fn test_slots(
-    spaces: &[Bytes],
+    spaces: &[NodeSpace],
     versions: &Versions,
     names: &Names,
     node: u8,
@@ -189,7 +189,7 @@ fn test_slots(
 
 /// Tests a node behind the first.
 fn test_node(
-    spaces: &[Bytes],
+    spaces: &[NodeSpace],
     versions: &Versions,
     names: &Names,
     node: u8,
@@ -261,7 +261,7 @@ fn versions_of(alloc: Global, entries: &[Option<CatEntry>]) -> Result<Versions, 
 }
 
 /// The pages of all nodes that are named as children.
-fn names_of(alloc: Global, spaces: &[Bytes], versions: &Versions) -> Result<Names, NoMemory>
+fn names_of(alloc: Global, spaces: &[NodeSpace], versions: &Versions) -> Result<Names, NoMemory>
     requires few { length spaces.now ≤ 8 }
     requires whole { AllByRecursion (λ space. length space ≡ space_size) spaces.now }
     ensures { (entries : List CatEntry) → AreVersions versions.now entries
@@ -275,7 +275,7 @@ fn names_of(alloc: Global, spaces: &[Bytes], versions: &Versions) -> Result<Name
 }
 
 /// Tests the nodes behind the first.
-fn test_others(spaces: &[Bytes], versions: &Versions, names: &Names) -> Result<(), ForestError>
+fn test_others(spaces: &[NodeSpace], versions: &Versions, names: &Names) -> Result<(), ForestError>
     requires few { length spaces.now ≤ 8 }
     requires whole { AllByRecursion (λ space. length space ≡ space_size) spaces.now }
     ensures passes { (es : List (Option CatEntry)) → AreVersions versions.now (entries_of es)
@@ -294,7 +294,7 @@ fn test_others(spaces: &[Bytes], versions: &Versions, names: &Names) -> Result<(
 /// Tests each rule on each node.
 fn test_all(
     alloc: Global,
-    spaces: &[Bytes],
+    spaces: &[NodeSpace],
     entries: &[Option<CatEntry>],
 ) -> Result<(), ForestError>
     requires some { 1 ≤ length spaces.now }
@@ -329,7 +329,7 @@ fn test_all(
 /// lower with just the child's range, which serves what its parent serves. `Reach` (where the page
 /// begins), for each version that the page serves it is the root, or a page one height up that
 /// serves the version names it.
-pub fn check(alloc: Global, spaces: &Spaces) -> Result<Store, ForestError>
+pub fn check(alloc: Global, spaces: &NodeSpaces) -> Result<Store, ForestError>
     requires some { 1 ≤ length spaces.now }
     requires few { length spaces.now ≤ 8 }
     requires whole { AllByRecursion (λ space. length space ≡ space_size) spaces.now }

@@ -7,12 +7,13 @@ ghost use Rattle.mn_page.specs.Forest.{header_bytes};
 ghost use Rattle.mn_page.specs.Grammar.{IsUnused};
 ghost use Rattle.mn_forest.specs.Rules.{ReadsAs, Says, IsReadable, HasHeader, IsCount, HasCount};
 ghost use Rattle.mn_forest.specs.Rules.{HasEntry, IsRootAt, EntryFits, entry_place, entry_of};
-ghost use Rattle.mn_forest.specs.Rules.{parent_fits, is_named, is_child_of, zeros};
+ghost use Rattle.mn_forest.specs.Rules.{parent_fits, is_named, is_child_of, space_at, zeros};
 
-use crate::place::{ENTRIES, are_zeros, entry_place, page_at, range, space_at};
+use crate::place::{ENTRIES, are_zeros, entry_place, front_range, page_at};
 use byteorder::{BigEndian, ByteOrder};
-use mn_base::{Bytes, Name, NoMemory, VersionNo};
+use mn_base::{Name, NoMemory, VersionNo};
 use mn_page::{CatEntry, PageError, PageRef};
+use mn_space::NodeSpace;
 use std::alloc::Global;
 
 /// What a place of the catalog says: its entry, or none where it is unused or outside the grammar.
@@ -27,7 +28,7 @@ fn entry_in(alloc: Global, place: &[u8]) -> Result<Option<CatEntry>, NoMemory>
 }
 
 /// What the catalog of node 0 says, place by place.
-pub fn catalog_in(alloc: Global, spaces: &[Bytes]) -> Result<Vec<Option<CatEntry>>, NoMemory>
+pub fn catalog_in(alloc: Global, spaces: &[NodeSpace]) -> Result<Vec<Option<CatEntry>>, NoMemory>
     requires some { 0 < length spaces.now }
     requires whole { AllByRecursion (λ space. length space ≡ space_size) spaces.now }
     ensures { IfOk result (λ es. Says spaces.now es.items) }
@@ -39,25 +40,25 @@ pub fn catalog_in(alloc: Global, spaces: &[Bytes]) -> Result<Vec<Option<CatEntry
     Ok(entries)
 }
 
-/// Whether the space begins with the header.
-fn is_header(space: &[u8], nodes: u8, node: u8) -> bool
-    requires { length space.now ≡ space_size }
-    ensures { MatchBool result (bytes_in space.now 0 16 ≡ header_bytes nodes node)
-        (bytes_in space.now 0 16 ≡ header_bytes nodes node → ⊥) }
+/// Whether a space begins with the header, by its first 16 bytes.
+fn is_header(first: &[u8], nodes: u8, node: u8) -> bool
+    ensures { MatchBool result (first.now ≡ header_bytes nodes node)
+        (first.now ≡ header_bytes nodes node → ⊥) }
 {
     let header = [
         b'M', b'I', b'N', b'U', b'E', b'T', 1, nodes, node, 0, 0, 0, 0, 0, 0, 0,
     ];
-    range(space, 0, 16) == &header[..]
+    first == &header[..]
 }
 
-/// Whether the bytes of a range are all zero.
-fn is_kept_zero(space: &[u8], start: usize, size: usize) -> bool
-    requires { start + size ≤ length space.now }
-    ensures { MatchBool result (bytes_in space.now start size ≡ zeros size)
-        (bytes_in space.now start size ≡ zeros size → ⊥) }
+/// Whether the bytes of a range before the slots are all zero.
+fn is_kept_zero(spaces: &[NodeSpace], node: u8, start: usize, size: usize) -> bool
+    requires there { node < length spaces.now }
+    requires before { start + size ≤ 20480 }
+    ensures { MatchBool result (bytes_in (space_at spaces.now node) start size ≡ zeros size)
+        (bytes_in (space_at spaces.now node) start size ≡ zeros size → ⊥) }
 {
-    are_zeros(range(space, start, size))
+    are_zeros(front_range(spaces, node, start, size))
 }
 
 /// Whether all three are so.
@@ -68,16 +69,16 @@ pub fn are_all(one: bool, two: bool, three: bool) -> bool
 }
 
 /// Whether the node has its header, and zeros where nothing may stand.
-pub fn has_header(spaces: &[Bytes], node: u8) -> bool
+pub fn has_header(spaces: &[NodeSpace], node: u8) -> bool
     requires there { node < length spaces.now }
     requires few { length spaces.now ≤ 8 }
     requires whole { AllByRecursion (λ space. length space ≡ space_size) spaces.now }
     ensures { MatchBool result (HasHeader spaces.now node) (HasHeader spaces.now node → ⊥) }
 {
-    let space = space_at(spaces, node);
-    let header = is_header(space, spaces.len() as u8, node);
-    let behind = is_kept_zero(space, 24, 40);
-    let kept = is_kept_zero(space, 4_160, 16_320);
+    let first = front_range(spaces, node, 0, 16);
+    let header = is_header(first, spaces.len() as u8, node);
+    let behind = is_kept_zero(spaces, node, 24, 40);
+    let kept = is_kept_zero(spaces, node, 4_160, 16_320);
     are_all(header, behind, kept)
 }
 
@@ -90,16 +91,16 @@ fn is_count(bytes: &[u8]) -> bool
 }
 
 /// Whether the node has given out no more slots than there are.
-pub fn has_count(spaces: &[Bytes], node: u8) -> bool
+pub fn has_count(spaces: &[NodeSpace], node: u8) -> bool
     requires there { node < length spaces.now }
     requires whole { AllByRecursion (λ space. length space ≡ space_size) spaces.now }
     ensures { MatchBool result (HasCount spaces.now node) (HasCount spaces.now node → ⊥) }
 {
-    is_count(range(space_at(spaces, node), 16, 8))
+    is_count(front_range(spaces, node, 16, 8))
 }
 
 /// Whether a place of the catalog of node 0 is unused.
-fn is_unused(spaces: &[Bytes], entry: usize) -> bool
+fn is_unused(spaces: &[NodeSpace], entry: usize) -> bool
     requires some { 0 < length spaces.now }
     requires whole { AllByRecursion (λ space. length space ≡ space_size) spaces.now }
     requires place { entry < 64 }
@@ -110,7 +111,7 @@ fn is_unused(spaces: &[Bytes], entry: usize) -> bool
 }
 
 /// Whether a place of the node's catalog is, byte for byte, that of node 0, whatever it says.
-pub fn has_same_entry(spaces: &[Bytes], node: u8, entry: usize) -> bool
+pub fn has_same_entry(spaces: &[NodeSpace], node: u8, entry: usize) -> bool
     requires there { node < length spaces.now }
     requires whole { AllByRecursion (λ space. length space ≡ space_size) spaces.now }
     requires place { entry < 64 }
@@ -188,7 +189,7 @@ fn entry_fits(entries: &[Option<CatEntry>], version: usize) -> bool
 }
 
 /// Whether a place of the catalog of node 0 has an entry or is unused.
-fn is_readable(spaces: &[Bytes], entries: &[Option<CatEntry>], version: usize) -> bool
+fn is_readable(spaces: &[NodeSpace], entries: &[Option<CatEntry>], version: usize) -> bool
     requires some { 0 < length spaces.now }
     requires whole { AllByRecursion (λ space. length space ≡ space_size) spaces.now }
     requires says { Says spaces.now entries.now }
@@ -203,7 +204,7 @@ fn is_readable(spaces: &[Bytes], entries: &[Option<CatEntry>], version: usize) -
 }
 
 /// Whether a place of the catalog of node 0 has an entry that fits the others, or is unused.
-pub fn has_entry(spaces: &[Bytes], entries: &[Option<CatEntry>], version: usize) -> bool
+pub fn has_entry(spaces: &[NodeSpace], entries: &[Option<CatEntry>], version: usize) -> bool
     requires some { 0 < length spaces.now }
     requires whole { AllByRecursion (λ space. length space ≡ space_size) spaces.now }
     requires says { Says spaces.now entries.now }
@@ -222,7 +223,7 @@ fn root_fits(page: &PageRef<'_>, version: usize) -> bool
 }
 
 /// Whether the root of an entry is a page that was made in its version, without fences.
-pub fn has_root(spaces: &[Bytes], version: usize, entry: &CatEntry) -> bool
+pub fn has_root(spaces: &[NodeSpace], version: usize, entry: &CatEntry) -> bool
     requires { AllByRecursion (λ space. length space ≡ space_size) spaces.now }
     ensures { MatchBool result (IsRootAt spaces.now version entry.now)
         (IsRootAt spaces.now version entry.now → ⊥) }

@@ -16,8 +16,9 @@ ghost use Rattle.mn_forest.specs.Trees.{name_key, keys_same, is_noted, is_root_a
 
 use crate::front::are_all;
 use crate::place::{are_zeros, count_at, page_at, slot_place};
-use mn_base::{Addr, Bytes, NoMemory, NodeNo, VersionNo};
+use mn_base::{Addr, NoMemory, NodeNo, VersionNo};
 use mn_page::PageRef;
+use mn_space::NodeSpace;
 use mn_vtree::VersionTree;
 use std::alloc::Global;
 use std::collections::HashSet;
@@ -106,7 +107,7 @@ fn versions_fit(versions: &Versions, page: &PageRef<'_>) -> bool
 
 /// Whether a slot below the count has a page of the catalog's versions, or one from there on is
 /// free.
-pub fn has_page(spaces: &[Bytes], versions: &Versions, addr: Addr) -> bool
+pub fn has_page(spaces: &[NodeSpace], versions: &Versions, addr: Addr) -> bool
     requires there { addr.node.0 < length spaces.now }
     requires whole { AllByRecursion (λ space. length space ≡ space_size) spaces.now }
     requires slot { addr.slot < 4096 }
@@ -204,7 +205,7 @@ fn is_child(versions: &Versions, page: &PageRef<'_>, i: usize, child: &PageRef<'
 }
 
 /// Whether child `i` of an inner page is as the page says.
-fn has_child(spaces: &[Bytes], versions: &Versions, page: &PageRef<'_>, i: usize) -> bool
+fn has_child(spaces: &[NodeSpace], versions: &Versions, page: &PageRef<'_>, i: usize) -> bool
     requires whole { AllByRecursion (λ space. length space ≡ space_size) spaces.now }
     requires there { i < length (addrs_in page.now.body) }
     ensures { (entries : List CatEntry) (c : ChildRange) → AreVersions versions.now entries
@@ -228,7 +229,7 @@ pub fn child_count(page: &PageRef<'_>) -> usize
 }
 
 /// Whether each child of a page is.
-fn are_children(spaces: &[Bytes], versions: &Versions, page: &PageRef<'_>) -> bool
+fn are_children(spaces: &[NodeSpace], versions: &Versions, page: &PageRef<'_>) -> bool
     requires whole { AllByRecursion (λ space. length space ≡ space_size) spaces.now }
     requires page { IsPage page.now }
     ensures { (entries : List CatEntry) → AreVersions versions.now entries
@@ -245,7 +246,7 @@ fn are_children(spaces: &[Bytes], versions: &Versions, page: &PageRef<'_>) -> bo
 }
 
 /// Whether each child of the page at the address is.
-pub fn has_children(spaces: &[Bytes], versions: &Versions, addr: Addr) -> bool
+pub fn has_children(spaces: &[NodeSpace], versions: &Versions, addr: Addr) -> bool
     requires { AllByRecursion (λ space. length space ≡ space_size) spaces.now }
     ensures { (entries : List CatEntry) → AreVersions versions.now entries
         → MatchBool result (HasChildren spaces.now entries addr)
@@ -338,7 +339,7 @@ impl Names {
     /// Notes the children of the page at the address.
     fn note_page(
         &mut self,
-        spaces: &[Bytes],
+        spaces: &[NodeSpace],
         versions: &Versions,
         addr: Addr,
     ) -> Result<(), NoMemory>
@@ -359,7 +360,7 @@ impl Names {
     /// Notes the children of the pages of a node.
     pub fn note_node(
         &mut self,
-        spaces: &[Bytes],
+        spaces: &[NodeSpace],
         versions: &Versions,
         node: u8,
     ) -> Result<(), NoMemory>
@@ -438,7 +439,7 @@ fn is_reached_for_all(versions: &Versions, names: &Names, page: &PageRef<'_>, ad
 
 /// Whether the page at the address is, for each version that it serves, the root or named by a page
 /// one height up.
-pub fn is_reached(spaces: &[Bytes], versions: &Versions, names: &Names, addr: Addr) -> bool
+pub fn is_reached(spaces: &[NodeSpace], versions: &Versions, names: &Names, addr: Addr) -> bool
     requires { AllByRecursion (λ space. length space ≡ space_size) spaces.now }
     ensures { (entries : List CatEntry) → AreVersions versions.now entries
         → AreNames names.now spaces.now entries

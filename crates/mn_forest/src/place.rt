@@ -1,4 +1,4 @@
-ghost use Rattle.std.specs.Prelude.{◌≡◌, ◌+◌, ◌<◌, ◌≤◌, length, replicate, MatchBool};
+ghost use Rattle.std.specs.Prelude.{◌≡◌, ◌+◌, ◌<◌, ◌≤◌, length, take, replicate, MatchBool};
 ghost use Rattle.std.specs.Prelude.{MatchOption};
 ghost use Rattle.std.specs.List.{AllByRecursion};
 ghost use Rattle.mn_mini.specs.Mini.{space_size};
@@ -8,8 +8,9 @@ ghost use Rattle.mn_page.specs.declared.page.Page.{Page};
 ghost use Rattle.mn_forest.specs.Rules.{space_at, count_at, entry_place, slot_place, StandsAt};
 
 use byteorder::{BigEndian, ByteOrder};
-use mn_base::{Addr, Bytes, NodeNo};
+use mn_base::{Addr, NodeNo};
 use mn_page::PageRef;
+use mn_space::NodeSpace;
 
 /// How many slots a node has.
 pub const SLOTS: u16 = 4_096;
@@ -32,23 +33,23 @@ pub fn slot_start(slot: u16) -> usize
     20_480 + 1_024 * usize::from(slot)
 }
 
-/// The bytes of a range.
-pub fn range(space: &[u8], start: usize, size: usize) -> &[u8]
-    requires { start + size ≤ length space.now }
-    ensures bytes { result.now ≡ bytes_in space.now start size }
-    ensures size { length result.now ≡ size }
+/// What stands before the slots of a node.
+fn front_at(spaces: &[NodeSpace], node: u8) -> &[u8]
+    requires there { node < length spaces.now }
+    ensures bytes { result.now ≡ take 20480 (space_at spaces.now node) }
+    ensures size { length result.now ≡ 20480 }
 {
-    &space[start..start + size]
+    spaces[usize::from(node)].front()
 }
 
-/// The space of a node.
-pub fn space_at(spaces: &[Bytes], node: u8) -> &[u8]
+/// The bytes of a range before the slots of a node.
+pub fn front_range(spaces: &[NodeSpace], node: u8, start: usize, size: usize) -> &[u8]
     requires there { node < length spaces.now }
-    requires whole { AllByRecursion (λ space. length space ≡ space_size) spaces.now }
-    ensures space { result.now ≡ space_at spaces.now node }
-    ensures size { length result.now ≡ space_size }
+    requires before { start + size ≤ 20480 }
+    ensures bytes { result.now ≡ bytes_in (space_at spaces.now node) start size }
+    ensures size { length result.now ≡ size }
 {
-    spaces[usize::from(node)].as_slice()
+    &front_at(spaces, node)[start..start + size]
 }
 
 /// Whether the bytes are all zero.
@@ -60,38 +61,38 @@ pub fn are_zeros(bytes: &[u8]) -> bool
 }
 
 /// How many slots the node has given out.
-pub fn count_at(spaces: &[Bytes], node: u8) -> u64
+pub fn count_at(spaces: &[NodeSpace], node: u8) -> u64
     requires there { node < length spaces.now }
     requires whole { AllByRecursion (λ space. length space ≡ space_size) spaces.now }
     ensures { result ≡ count_at spaces.now node }
 {
-    BigEndian::read_u64(range(space_at(spaces, node), 16, 8))
+    BigEndian::read_u64(front_range(spaces, node, 16, 8))
 }
 
 /// The bytes of a place of the catalog.
-pub fn entry_place(spaces: &[Bytes], node: u8, entry: usize) -> &[u8]
+pub fn entry_place(spaces: &[NodeSpace], node: u8, entry: usize) -> &[u8]
     requires there { node < length spaces.now }
     requires whole { AllByRecursion (λ space. length space ≡ space_size) spaces.now }
     requires place { entry < 64 }
     ensures place { result.now ≡ entry_place spaces.now node entry }
     ensures size { length result.now ≡ 64 }
 {
-    range(space_at(spaces, node), entry_start(entry), 64)
+    front_range(spaces, node, entry_start(entry), 64)
 }
 
 /// The bytes of a slot.
-pub fn slot_place(spaces: &[Bytes], node: u8, slot: u16) -> &[u8]
+pub fn slot_place(spaces: &[NodeSpace], node: u8, slot: u16) -> &[u8]
     requires there { node < length spaces.now }
     requires whole { AllByRecursion (λ space. length space ≡ space_size) spaces.now }
     requires place { slot < 4096 }
     ensures place { result.now ≡ slot_place spaces.now node slot }
     ensures size { length result.now ≡ 1024 }
 {
-    range(space_at(spaces, node), slot_start(slot), 1_024)
+    spaces[usize::from(node)].slot(slot)
 }
 
 /// The page that stands at the address.
-pub fn page_at<'a>(spaces: &'a [Bytes], addr: Addr) -> Option<PageRef<'a>>
+pub fn page_at<'a>(spaces: &'a [NodeSpace], addr: Addr) -> Option<PageRef<'a>>
     requires whole { AllByRecursion (λ space. length space ≡ space_size) spaces.now }
     ensures { MatchOption result ((p : Page) → StandsAt spaces.now addr p → ⊥)
         (λ p. StandsAt spaces.now addr p) }

@@ -10,9 +10,10 @@ ghost use Rattle.mn_forest.specs.Shown.{store_shown};
 
 use crate::pages::child_count;
 use crate::place::page_at;
-use mn_base::{Addr, Bytes, NoMemory, Pair, Pairs, TryCopy};
+use mn_base::{Addr, NoMemory, Pair, Pairs, TryCopy};
 use mn_page::{Body, CatEntry, Page, PageRef};
 use mn_plain::{Kept, Store};
+use mn_space::NodeSpace;
 use std::alloc::Global;
 
 /// Adds the pairs of a leaf.
@@ -33,7 +34,7 @@ fn take_leaf(alloc: Global, page: &PageRef<'_>, pairs: &mut Vec<Pair>) -> Result
 /// Adds the pairs of the leaves so many heights below a page, in order.
 fn take_pairs(
     alloc: Global,
-    spaces: &[Bytes],
+    spaces: &[NodeSpace],
     addr: Addr,
     height: u16,
     pairs: &mut Vec<Pair>,
@@ -57,7 +58,7 @@ fn take_pairs(
 }
 
 /// The height of the page at the address; 0 where there is none.
-fn height_at(spaces: &[Bytes], addr: Addr) -> u16
+fn height_at(spaces: &[NodeSpace], addr: Addr) -> u16
     requires { AllByRecursion (λ space. length space ≡ space_size) spaces.now }
     ensures { (at : PagesAt) → ArePages spaces.now at → result ≡ height_there at addr }
 {
@@ -68,7 +69,7 @@ fn height_at(spaces: &[Bytes], addr: Addr) -> u16
 }
 
 /// A version with its pairs, from its entry.
-fn version_of(alloc: Global, spaces: &[Bytes], entry: &CatEntry) -> Result<Kept, NoMemory>
+fn version_of(alloc: Global, spaces: &[NodeSpace], entry: &CatEntry) -> Result<Kept, NoMemory>
     requires { AllByRecursion (λ space. length space ≡ space_size) spaces.now }
     ensures { (at : PagesAt) → ArePages spaces.now at
         → IfOk result (λ kept. version_of kept ≡ version_shown at entry.now) }
@@ -88,7 +89,7 @@ fn version_of(alloc: Global, spaces: &[Bytes], entry: &CatEntry) -> Result<Kept,
 /// Adds the versions of these entries, up to the first place without one.
 fn take_versions(
     alloc: Global,
-    spaces: &[Bytes],
+    spaces: &[NodeSpace],
     entries: &[Option<CatEntry>],
     versions: &mut Vec<Kept>,
 ) -> Result<(), NoMemory>
@@ -110,7 +111,7 @@ fn take_versions(
 /// spaces show one.
 pub fn store_in(
     alloc: Global,
-    spaces: &[Bytes],
+    spaces: &[NodeSpace],
     entries: &[Option<CatEntry>],
 ) -> Result<Store, NoMemory>
     requires whole { AllByRecursion (λ space. length space ≡ space_size) spaces.now }

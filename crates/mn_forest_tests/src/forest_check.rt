@@ -4,20 +4,21 @@ ghost use Rattle.std.specs.Bool.{OnTrue};
 ghost use Rattle.std.specs.List.{AllByRecursion, list_all};
 ghost use Rattle.mn_mini.specs.Mini.{space_size};
 
-use mn_base::{Bytes, Key, Name, NoMemory, NodeNo, Op, Reply, Step, Steps};
+use mn_base::{Key, Name, NoMemory, NodeNo, Op, Reply, Step, Steps};
 use mn_forest::{ForestError, Rule, base_spaces, check};
-use mn_mini::{SPACE, Spaces};
+use mn_mini::SPACE;
 use mn_plain::Store;
+use mn_space::{NodeSpace, NodeSpaces};
 use std::alloc::Global;
 use std::test::Fail;
 
 /// Bytes of a node's space: the node, the place, and what stands there.
-type Change = (usize, usize, &'static [u8]);
+type Change = (usize, u32, &'static [u8]);
 
 /// Where slots 0 and 1 begin.
-const SLOT_0: usize = 20_480;
+const SLOT_0: u32 = 20_480;
 
-const SLOT_1: usize = 21_504;
+const SLOT_1: u32 = 21_504;
 
 /// The root after the first split: children node 1 slot 0 and, from `k5` on, node 0 slot 1.
 const ROOT: &[u8] = &[
@@ -61,44 +62,36 @@ const TREE: &[Change] = &[
     (0, SLOT_1, RIGHT),
 ];
 
-fn put(space: &mut Vec<u8>, start: usize, bytes: &[u8]) {
-    for (place, byte) in space.iter_mut().skip(start).zip(bytes) {
-        *place = *byte;
-    }
-}
-
 /// Makes the changes of this node in its space.
-fn change(space: &mut Vec<u8>, of: usize, changes: &[Change]) {
+fn change(space: &mut NodeSpace, of: usize, changes: &[Change]) {
     for (node, start, bytes) in changes {
         if *node == of {
-            put(space, *start, bytes);
+            space.write(*start, bytes);
         }
     }
 }
 
 /// The memory of two fresh nodes with these changes, and then those.
-fn changed(alloc: Global, tree: &[Change], changes: &[Change]) -> Result<Spaces, NoMemory> {
+fn changed(alloc: Global, tree: &[Change], changes: &[Change]) -> Result<NodeSpaces, NoMemory> {
     let mut spaces = Vec::new(alloc);
     for (node, space) in base_spaces(alloc, 2)?.into_vec().into_iter().enumerate() {
-        let mut space = space.into_vec();
+        let mut space = space;
         change(&mut space, node, tree);
         change(&mut space, node, changes);
-        spaces.push(Bytes::from_vec(space))?;
+        spaces.push(space)?;
     }
-    Ok(Spaces::from_vec(spaces))
+    Ok(NodeSpaces::from_vec(spaces))
 }
 
 /// Whether the spaces are of full size.
-fn are_whole(spaces: &[Bytes]) -> bool
+fn are_whole(spaces: &[NodeSpace]) -> bool
     ensures { result ≡ list_all (λ space. nat_eq (length space) space_size) spaces.now }
 {
-    spaces
-        .iter()
-        .all(|space| space.as_slice().len() == SPACE as usize)
+    spaces.iter().all(|space| space.len() == SPACE as usize)
 }
 
 /// Whether there are 1 to 8 spaces of full size.
-fn may_be_checked(spaces: &Spaces) -> bool
+fn may_be_checked(spaces: &NodeSpaces) -> bool
     ensures { OnTrue result ((1 ≤ length spaces.now) × (length spaces.now ≤ 8)
         × AllByRecursion (λ space. length space ≡ space_size) spaces.now) }
 {
@@ -110,7 +103,7 @@ fn may_be_checked(spaces: &Spaces) -> bool
 }
 
 /// The store that whole spaces hold.
-fn store_of(alloc: Global, spaces: &Spaces) -> Result<Store, Fail> {
+fn store_of(alloc: Global, spaces: &NodeSpaces) -> Result<Store, Fail> {
     if !may_be_checked(spaces) {
         return Err(Fail::new("the spaces are not whole"));
     }
@@ -142,7 +135,11 @@ fn has_found(reply: &Reply, value: Option<&[u8]>) -> bool {
 }
 
 /// Whether `main` is the only version, and has these values, or none, at these keys.
-fn shows(alloc: Global, spaces: &Spaces, values: &[(&[u8], Option<&[u8]>)]) -> Result<bool, Fail> {
+fn shows(
+    alloc: Global,
+    spaces: &NodeSpaces,
+    values: &[(&[u8], Option<&[u8]>)],
+) -> Result<bool, Fail> {
     let mut store = store_of(alloc, spaces)?;
     for (key, value) in values {
         let reply = store.apply(alloc, &get(alloc, key)?)?;
@@ -180,7 +177,7 @@ fn shows_the_base_of_one_and_of_eight_nodes(rt: HostRuntime) -> Result<(), Fail>
 type Row = (&'static [Change], Option<(u8, u32, Rule)>);
 
 /// What the check says of a memory.
-fn found(alloc: Global, spaces: &Spaces) -> Result<Option<(u8, u32, Rule)>, Fail> {
+fn found(alloc: Global, spaces: &NodeSpaces) -> Result<Option<(u8, u32, Rule)>, Fail> {
     if !may_be_checked(spaces) {
         return Err(Fail::new("the spaces are not whole"));
     }

@@ -2,7 +2,8 @@
 use mn_base::{ClientNo, NoMemory, NodeNo, Nodes, Tid};
 use mn_flat::{VoteError, flat_of};
 use mn_forest::base_spaces;
-use mn_mini::{Part, PartItem, Record, Records, SharedBytes, Spaces};
+use mn_mini::{Part, PartItem, Record, Records, SharedBytes};
+use mn_space::{NodeSpace, NodeSpaces};
 use std::alloc::Global;
 use std::test::Fail;
 
@@ -118,16 +119,28 @@ fn records_of(alloc: Global, letters: &str) -> Result<Records, NoMemory> {
 }
 
 /// The memory that the records of two nodes make, which have these letters.
-fn memory_of(alloc: Global, zero: &str, one: &str) -> Result<Spaces, VoteError> {
+fn memory_of(alloc: Global, zero: &str, one: &str) -> Result<NodeSpaces, VoteError> {
     flat_of(alloc, &[records_of(alloc, zero)?, records_of(alloc, one)?])
 }
 
 /// Whether these bytes stand at the place in a node's space.
-fn has(spaces: &Spaces, node: usize, at: usize, bytes: &[u8]) -> bool {
-    let Some(space) = spaces.as_slice().get(node) else {
-        return false;
-    };
-    at <= space.as_slice().len() && space.as_slice()[at..].starts_with(bytes)
+fn has(spaces: &NodeSpaces, node: usize, at: usize, bytes: &[u8]) -> bool {
+    match spaces.as_slice().get(node) {
+        Some(space) => bytes_at(space, at).starts_with(bytes),
+        None => false,
+    }
+}
+
+/// The bytes from a place on, up to the end of its slot, or of what stands before the slots.
+fn bytes_at(space: &NodeSpace, at: usize) -> &[u8] {
+    if at < 20_480 {
+        return &space.front()[at..];
+    }
+    let slot = (at - 20_480) / 1_024;
+    if slot >= 4_096 {
+        return &[];
+    }
+    &space.slot(slot as u16)[(at - 20_480) % 1_024..]
 }
 
 /// The entry of `main` in a fresh store.

@@ -8,7 +8,7 @@ use Rattle.mn_mini.specs.Flat.{bytes_in, overwritten}
 use Rattle.mn_mini.proofs.Bytes.{parts-commute, range-after_part}
 use Rattle.mn_page.specs.Grammar.{padded}
 use Rattle.mn_node.specs.Images.{AreApart, AreBlocks, block_size, with_image, with_images}
-use Rattle.mn_node.proofs.Spaces.{overwritten_long, padded_long}
+use Rattle.mn_space.proofs.Spaces.{overwritten_long, padded_long}
 
 -- Bytes put over a range
 

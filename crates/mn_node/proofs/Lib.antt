@@ -1,4 +1,3 @@
-pub mod Spaces
 pub mod Blocks
 pub mod Pieces
 pub mod Tids

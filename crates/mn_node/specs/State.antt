@@ -125,8 +125,8 @@ Answers state faults old request stop Say.NoMemory new =
 Answers state faults old request stop Say.Stopped new =
     (old.down ≡ false) × (new.down ≡ true) × (new.records ≡ old.records)
     × (r : Record) × ((response_to old request).added ≡ Some r) × (new.pending ≡ Some r)
-    × Stops state faults old.disk new.disk old.node old.nodes old.records old.cut new.cut new.cutting
-    r stop
+    × Stops state faults old.disk new.disk old.node old.nodes old.records old.cut new.cut
+    new.cutting r stop
 Answers state faults old request stop Say.Down new = (old.down ≡ true) × (new ≡ old)
 Answers state faults old request stop reply new =
     (old.down ≡ false) × (new.down ≡ false) × ((response_to old request).reply ≡ reply)
@@ -146,8 +146,8 @@ pub record AreRecords (bodies : List (List ℕ)) (records : List Record) : Type 
   pub bodies_are : bodies ≡ bodies_of records
   pub sound : AllByRecursion IsRecord records
 
--- of bodies whose log begins at a place, the first that spells no record is the one whose gate is at
--- this place
+-- of bodies whose log begins at a place, the first that spells no record is the one whose gate is
+-- at this place
 pub record IsFirstBadBody (start : ℕ) (bodies : List (List ℕ)) (at : ℕ) : Type 0 where
   pub number : ℕ
   pub within : number < length bodies

@@ -6,9 +6,9 @@ ghost use Rattle.mn_mini.specs.Mini.{space_size};
 ghost use Rattle.mn_page.specs.Grammar.{padded};
 ghost use Rattle.mn_node.specs.Images.{AreApart, AreBlocks, block_size, with_images};
 
-use crate::kept::write;
 use mn_base::{NoMemory, TryCopy};
 use mn_mini::{SPACE, SharedBytes};
+use mn_space::write;
 use std::alloc::Global;
 use std::marker::Model;
 

@@ -5,7 +5,6 @@
 mod bodies;
 mod held;
 mod images;
-mod kept;
 mod list;
 mod logging;
 mod memory;

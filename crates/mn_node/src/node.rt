@@ -173,8 +173,8 @@ impl<D: Disk> Node<D> {
     /// `NoMemory` where there was no memory: nothing has changed. A Decide takes no memory. What is
     /// replied fits the request.
     ///
-    /// A vote or an execution shortens the log first where its tail has 1,048,576 bytes or more, and
-    /// where its number allows it; the stops are at the record behind that.
+    /// A vote or an execution shortens the log first where its tail has 1,048,576 bytes or more,
+    /// and where its number allows it; the stops are at the record behind that.
     pub fn handle(&mut self, alloc: Global, request: &Request, stop: Option<StopAt>) -> NodeReply
         requires sound { IsSoundRequest request.now }
         ensures answers { Answers D.state D.faults self.old request.now stop result self.new }

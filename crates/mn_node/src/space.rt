@@ -5,10 +5,10 @@ ghost use Rattle.mn_page.specs.Base.{base_of};
 ghost use Rattle.mn_page.specs.Grammar.{padded};
 
 use crate::images::{BLOCK, Images, block_of};
-use crate::kept::{is_kept, kept_in, write};
 use mn_base::{NoMemory, TryCopy};
 use mn_mini::{SPACE, SharedBytes};
 use mn_page::base_bytes;
+use mn_space::{is_kept, kept_in, write};
 use std::alloc::Global;
 use std::marker::Model;
 

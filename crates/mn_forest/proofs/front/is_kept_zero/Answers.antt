@@ -8,4 +8,4 @@ pub returns : goal.returns
 returns c =
     let b = c.are_zeros.result in
     let n = c.args.size in
-    subst (λ (l : List ℕ). MatchBool b (l ≡ zeros n) (l ≡ zeros n → ⊥)) c.range.ensures.bytes (zeros_of c.range.result.now n b c.range.ensures.size c.are_zeros.ensures)
+    subst (λ (l : List ℕ). MatchBool b (l ≡ zeros n) (l ≡ zeros n → ⊥)) c.front_range.ensures.bytes (zeros_of c.front_range.result.now n b c.front_range.ensures.size c.are_zeros.ensures)

@@ -5,7 +5,7 @@ use Rattle.mn_mini.specs.Mini.{space_size}
 use Rattle.mn_page.specs.Grammar.{padded}
 use Rattle.mn_node.specs.Images.{block_size}
 use Rattle.mn_node.proofs.Blocks.{image_is, space_long}
-use Rattle.mn_node.proofs.Spaces.{padded_long}
+use Rattle.mn_space.proofs.Spaces.{padded_long}
 use Rattle.mn_node.proofs.space.Space.image_of.Goals as goal
 
 pub returns : goal.returns

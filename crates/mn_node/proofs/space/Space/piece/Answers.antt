@@ -4,7 +4,7 @@ use Rattle.mn_mini.specs.Mini.{space_size}
 use Rattle.mn_page.specs.Grammar.{padded}
 use Rattle.mn_node.specs.Images.{block_size}
 use Rattle.mn_node.proofs.Blocks.{bytes_free, piece_is, space_long}
-use Rattle.mn_node.proofs.Spaces.{padded_long}
+use Rattle.mn_space.proofs.Spaces.{padded_long}
 use Rattle.mn_node.proofs.space.Space.piece.Goals as goal
 
 pub free_in-count-requires-clause-within : goal.free_in-count-requires-clause-within

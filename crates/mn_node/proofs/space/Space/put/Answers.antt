@@ -4,7 +4,7 @@ use Rattle.mn_mini.specs.Mini.{space_size}
 use Rattle.mn_page.specs.Grammar.{padded}
 use Rattle.mn_node.specs.Images.{with_images}
 use Rattle.mn_node.proofs.Blocks.{put_free, space_long}
-use Rattle.mn_node.proofs.Spaces.{overwritten_long}
+use Rattle.mn_space.proofs.Spaces.{overwritten_long}
 use Rattle.mn_node.proofs.space.Space.put.Goals as goal
 
 pub take-requires-clause-within : goal.take-requires-clause-within

@@ -3,8 +3,8 @@ use Rattle.std.proofs.lemmas.List.{drop-drop, take_at}
 use Rattle.mn_mini.specs.Flat.{overwritten}
 use Rattle.mn_mini.specs.Mini.{space_size}
 use Rattle.mn_page.specs.Grammar.{padded}
-use Rattle.mn_node.proofs.Spaces.{overwritten-inside, overwritten_long, put_kept, reached}
-use Rattle.mn_node.proofs.kept.write.Goals as goal
+use Rattle.mn_space.proofs.Spaces.{overwritten-inside, overwritten_long, put_kept, reached}
+use Rattle.mn_space.proofs.kept.write.Goals as goal
 
 pub returns-clause-bytes : goal.returns-clause-bytes
 returns-clause-bytes c =

@@ -1,8 +1,8 @@
 use Rattle.std.proofs.Common.{◌≡◌, ◌≤◌, ◌+◌, ◌-◌, ℕ, List, length, take, drop, min, ap, ◌∙◌, arith}
 use Rattle.mn_mini.specs.Mini.{space_size}
 use Rattle.mn_page.specs.Grammar.{padded}
-use Rattle.mn_node.proofs.Spaces.{kept_is}
-use Rattle.mn_node.proofs.kept.kept_in.Goals as goal
+use Rattle.mn_space.proofs.Spaces.{kept_is}
+use Rattle.mn_space.proofs.kept.kept_in.Goals as goal
 
 pub returns-clause-bytes : goal.returns-clause-bytes
 returns-clause-bytes c =

@@ -1,8 +1,8 @@
 use Rattle.std.proofs.Common.{◌≡◌, ◌-◌, ◌&&◌, Bool, nat_eq, List, ℕ, length, take, drop, ap, sym, ◌∙◌, arith}
 use Rattle.std.specs.List.{list_all}
 use Rattle.std.proofs.lemmas.List.{length-drop, take_all}
-use Rattle.mn_node.proofs.Spaces.{holds_is}
-use Rattle.mn_node.proofs.kept.is_kept.Goals as goal
+use Rattle.mn_space.proofs.Spaces.{holds_is}
+use Rattle.mn_space.proofs.kept.is_kept.Goals as goal
 
 pub returns-then-eq : goal.returns-then-eq
 returns-then-eq c =
