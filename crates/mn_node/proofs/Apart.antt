@@ -21,6 +21,7 @@ use Rattle.mn_mini.specs.declared.reply.NodeReply.TheVariants as Say
 use Rattle.mn_node.specs.declared.memory.Memory.{Memory}
 use Rattle.mn_page.specs.Base.{base_of}
 use Rattle.mn_mini.specs.Short.{short}
+use Rattle.mn_node.specs.Memory.{HasFront}
 use Rattle.mn_node.specs.Node.{LogKeepsDisk, MayHaveShortened, NoStopIsDue, IsNodeUp, Replies, KeepsNodeNumbers, StandsForEither, Stops, added_to, listed, node_answer, on_disk}
 use Rattle.mn_node.specs.State.{IsNode, other_list}
 use Rattle.mn_node.proofs.Found.{first_sound}
@@ -88,7 +89,7 @@ is_node state faults redo new m after down pending cutting was up goes same is a
       up = λ _. is;
       settled = was.settled;
       whole = was.whole;
-      within = is.within;
+      front = is.front;
       sound = subst (λ (o : Option Record). AllByRecursion IsRecord (added_to after.records.items o)) (sym none) is.memory.sound;
       apart = apart;
       apart_left = subst (λ (o : Option Record). PartsAreApart (held_parts (reverse (added_to after.records.items o)))) (sym none) apart;
@@ -133,15 +134,6 @@ pub between_later : {D : Type 0} (state : D → DiskState) (faults : D → ℕ) 
 between_later state faults old between records before after (inl (same, cut)) = omega (arith, ap faults same)
 between_later state faults old between records before after (inr (cut, later, goes)) = later
 
-shortened_within : {D : Type 0} (state : D → DiskState) (faults : D → ℕ) (old between : D) (records : List Record) (before after : ℕ) → before ≤ length records → MayHaveShortened state faults old between records before after → after ≤ length records
-shortened_within state faults old between records before after within (inl (same, cut)) = omega (arith, within, cut)
-shortened_within state faults old between records before after within (inr (cut, later, goes)) = omega (arith, cut)
-
-stops_within : {D : Type 0} (state : D → DiskState) (faults : D → ℕ) (old new : D) (node nodes : ℕ) (records : List Record) (before after : ℕ) (cutting : Bool) (r : Record) (stop : Option StopAt) → before ≤ length records
-    → Stops state faults old new node nodes records before after cutting r stop → after ≤ length records
-stops_within state faults old new node nodes records before after true r stop within (cut, failed) = omega (arith, within, cut)
-stops_within state faults old new node nodes records before after false r stop within told = shortened_within state faults old told.between records before after within told.shortened
-
 stops_stand : {D : Type 0} (state : D → DiskState) (faults : D → ℕ) (old new : D) (node nodes : ℕ) (records : List Record) (before after : ℕ) (cutting : Bool) (r : Record) (stop : Option StopAt)
     → Stops state faults old new node nodes records before after cutting r stop → (state old).honest → StandsForEither (state new) node nodes (listed after records) (other_list cutting (listed after records) records (Some r))
 stops_stand state faults old new node nodes records before after true r stop (cut, failed) h =
@@ -151,7 +143,7 @@ stops_stand state faults old new node nodes records before after false r stop to
 
 pub node_stopped : {D : Type 0} (state : D → DiskState) (faults : D → ℕ) (redo new : AppenderState D) (m after : Memory) (down : Bool) (pending : Option Record) (was_cutting cutting : Bool) (request : Request) (stop : Option StopAt) (left : Record) → HeldPartsStayApart → IsSoundRequest request
     → IsNode state redo m down pending was_cutting → LogKeepsDisk state faults redo new → KeepsNodeNumbers m after
-    → (after.records.items ≡ m.records.items) × ((node_answer m request).added ≡ Some left) × Stops state faults redo.disk new.disk redo.node redo.nodes m.records.items m.cut after.cut cutting left stop → IsNode state new after true (Some left) cutting
+    → (after.records.items ≡ m.records.items) × ((node_answer m request).added ≡ Some left) × Stops state faults redo.disk new.disk redo.node redo.nodes m.records.items m.cut after.cut cutting left stop × HasFront after → IsNode state new after true (Some left) cutting
 node_stopped state faults redo new m after down pending was_cutting cutting request stop left law sound was goes same told =
     let base = base_of m.nodes m.node in
     let records = first_sound m.records.items pending was.sound in
@@ -160,8 +152,7 @@ node_stopped state faults redo new m after down pending was_cutting cutting requ
       up = λ e. absurd (true_is e);
       settled = λ e. absurd (true_is e);
       whole = λ e. absurd (true_is e);
-      within =
-          subst (λ (l : List Record). after.cut ≤ length l) (sym told.0) (stops_within state faults redo.disk new.disk redo.node redo.nodes m.records.items m.cut after.cut cutting left stop was.within told.2);
+      front = told.3;
       sound = subst (λ (l : List Record). AllByRecursion IsRecord (added_to l (Some left))) (sym told.0) (left_sound m.records.items left records one);
       apart = subst (λ (l : List Record). PartsAreApart (held_parts (reverse l))) (sym told.0) was.apart;
       apart_left = subst (λ (l : List Record). PartsAreApart (held_parts (reverse (added_to l (Some left))))) (sym told.0) apart;

@@ -6,6 +6,7 @@ pub mod Ties
 pub mod TestedParts
 pub mod Built
 pub mod Listed
+pub mod Fronts
 pub mod Steps
 pub mod Spelled
 pub mod Locked

@@ -35,7 +35,7 @@ listed_added cut records None within = refl
 listed_added cut records (Some r) within = listed_more cut records r within
 
 -- they are in the grammar
-first_sound : (n : ℕ) (records : List Record) → AllByRecursion IsRecord records → AllByRecursion IsRecord (take n records)
+pub first_sound : (n : ℕ) (records : List Record) → AllByRecursion IsRecord records → AllByRecursion IsRecord (take n records)
 first_sound zero records sound = tt
 first_sound (suc n) [] sound = tt
 first_sound (suc n) (r ∷ records) sound = (sound.0, first_sound n records sound.1)

@@ -44,7 +44,7 @@ at_then state old mid new P goes (inr first) (inl e) = inr (λ h. subst (λ (d :
 at_then state old mid new P goes (inr first) (inr second) = inr (λ h. LeavesOnly-trans (state old) (state mid) (state new) P (first h) (second (goes h)))
 
 pub up_images : {D : Type 0} (state : D → DiskState) (redo : AppenderState D) (m : Memory) (added : Option Record) → IsNodeUp state redo m → (state redo.disk).honest → (c : List ℕ) → (state redo.disk).images c → IsUpToWithOrWithout redo.node redo.nodes m.records.items added c
-up_images state redo m added up h c image = inl (up_to redo.node redo.nodes c m.cut m.records.items up.within (up_stands state redo m up h c image))
+up_images state redo m added up h c image = inl (up_to redo.node redo.nodes c m.cut m.records.items up.front.within (up_stands state redo m up h c image))
 
 pub with_record : (node nodes : ℕ) (body : List ℕ) (list : List Record) (r : Record) → body ≡ record_bytes r → (c : List ℕ) → IsBeforeOrAfter node nodes (bodies_of list) body c
     → IsEither node nodes list (added_to list (Some r)) c

@@ -1,6 +1,6 @@
 -- Why a restart fails, and what it finds.
 use Rattle.std.proofs.Common.{vec_len, ◌≡◌, ◌≢◌, ◌≤◌, ◌*◌, ◌++◌, ◌∷◌, [], ◌∙◌, ℕ, zero, suc, Bool, true, false, List, length, reverse, Option, Some, None, inl, inr, refl, Result, Ok, Err, OnOk, IfOk, IfErr, IsTrue, ◌↔◌, ap, sym, subst, arith, length-append}
-use Rattle.std.specs.Prelude.{◌⊎◌}
+use Rattle.std.specs.Prelude.{◌⊎◌, IsSome}
 use Rattle.std.specs.List.{AllByRecursion}
 use Rattle.std.proofs.lemmas.Bool.{false≢true}
 use Rattle.mn_io.specs.DiskModel.{DiskState}
@@ -21,10 +21,12 @@ use Rattle.mn_mini.specs.declared.record.Record.{Record}
 use Rattle.mn_node.specs.declared.memory.Memory.{Memory}
 use Rattle.mn_node.specs.declared.restart.RestartError.{RestartError}
 use Rattle.mn_node.specs.declared.restart.RestartError.TheVariants.{Fault, Damaged, NoMemory}
-use Rattle.mn_node.specs.Memory.{IsMemory, HasDecisionRoom}
+use Rattle.mn_node.specs.declared.restart.Found.{Found}
+use Rattle.mn_node.specs.declared.restart.Found.TheVariants.{Own, Longer, AllShortened}
+use Rattle.mn_node.specs.Memory.{IsMemory, HasDecisionRoom, HasFront}
 use Rattle.mn_node.specs.Node.{IsEither, IsNodeUp, IsLogFor, IsUpToWithOrWithout, added_to, bodies_of, listed, on_disk}
-use Rattle.mn_node.specs.Restart.{AreBodiesWithOrWithout, AreOtherBodies, FailsRestart, IsDamage, IsNoLog, RestartLeaves, TellsOtherRecords, error_of, is_there}
-use Rattle.mn_node.specs.State.{list_found}
+use Rattle.mn_node.specs.Restart.{AreBodiesWithOrWithout, AreOtherBodies, FailsRestart, IsDamage, IsNoLog, RestartLeaves, TellsOtherRecords, error_of}
+use Rattle.mn_node.specs.State.{MayBeFound, is_longer, list_of, other_list_of}
 use Rattle.mn_node.proofs.Listed.{listed_added, listed_more, listed_sound, up_to_either, up_to_short}
 use Rattle.mn_node.proofs.Found.{unsome}
 use Rattle.mn_node.proofs.Moments.{still_stands}
@@ -59,28 +61,29 @@ not_opened state faults old new records pending Cause.NoMemory rose never place 
 
 -- What a comparison says, as a list
 
--- a list that was found where no shortening failed
-pub found_list : (bodies : List (List ℕ)) (m : Memory) (pending : Option Record) (there : Bool) → AreBodiesWithOrWithout bodies (on_disk m) pending there → bodies ≡ bodies_of (list_found m pending false there)
-found_list bodies m pending false e = e
-found_list bodies m None true e = absurd e
-found_list bodies m (Some r) true e = e
-
--- and where one failed
-pub found_shortened : (bodies : List (List ℕ)) (m : Memory) (pending : Option Record) (shortened : Bool) → (shortened ≡ true → bodies ≡ bodies_of (list_found m pending true true)) → (shortened ≡ false → bodies ≡ bodies_of (on_disk m))
-    → bodies ≡ bodies_of (list_found m pending true shortened)
-found_shortened bodies m pending true first second = first refl
-found_shortened bodies m pending false first second = second refl
-
-pub found_pending : (bodies : List (List ℕ)) (records : List Record) (pending : Option Record) (there : Bool) → AreBodiesWithOrWithout bodies records pending there → there ≡ true → pending ≢ None
-found_pending bodies records (Some r) there e is = λ none. absurd cc
-found_pending bodies records None true e is = absurd e
-found_pending bodies records None false e is = absurd cc
-
 -- it is one of those that the disk may have
-pub found_stands : (node nodes : ℕ) (m : Memory) (pending : Option Record) (cutting other : Bool) → (c : List ℕ) → Stands node nodes c (bodies_of (list_found m pending cutting other))
-    → IsEither node nodes (on_disk m) (list_found m pending cutting true) c
-found_stands node nodes m pending cutting false c told = inl told
-found_stands node nodes m pending cutting true c told = inr told
+pub found_stands : (node nodes : ℕ) (m : Memory) (pending : Option Record) (cutting : Bool) (found : Found) → MayBeFound cutting found → (c : List ℕ) → Stands node nodes c (bodies_of (list_of m pending found)) → IsEither node nodes (on_disk m) (other_list_of m pending cutting) c
+found_stands node nodes m pending cutting Own may c told = inl told
+found_stands node nodes m pending false Longer may c told = inr told
+found_stands node nodes m pending true Longer may c told = absurd cc
+found_stands node nodes m pending true (AllShortened list) may c told = inr told
+found_stands node nodes m pending false (AllShortened list) may c told = absurd cc
+
+-- the pending record was found
+pub found_longer : (bodies : List (List ℕ)) (m : Memory) (pending : Option Record) (there : Bool) → there ≡ true → AreBodiesWithOrWithout bodies (on_disk m) pending there → (bodies ≡ bodies_of (list_of m pending Longer)) × IsSome pending
+found_longer bodies m (Some r) true is told = (told, refl)
+found_longer bodies m None true is told = absurd told
+found_longer bodies m pending false is told = absurd cc
+
+pub found_own : (bodies : List (List ℕ)) (m : Memory) (pending : Option Record) (there : Bool) → there ≡ false → AreBodiesWithOrWithout bodies (on_disk m) pending there → bodies ≡ bodies_of (on_disk m)
+found_own bodies m pending false is told = told
+found_own bodies m pending true is told = absurd cc
+
+pub not_longer : (cutting : Bool) (found : Found) → MayBeFound cutting found → cutting ≡ true → is_longer found ≡ false
+not_longer cutting Own may is = refl
+not_longer true Longer may is = absurd cc
+not_longer false Longer may is = absurd cc
+not_longer cutting (AllShortened list) may is = refl
 
 pub listed_records_sound : ShortKeepsGrammar → (cut : ℕ) (records : List Record) (pending : Option Record) → cut ≤ length records → AllByRecursion IsRecord (added_to records pending) → AllByRecursion IsRecord (added_to (listed cut records) pending)
 listed_records_sound keeps cut records pending within sound =
@@ -112,69 +115,10 @@ if_error : {T E : Type 0} {P Q : E → Type 0} (r : Result T E) → ((x : E) →
 if_error (Ok x) f p = tt
 if_error (Err x) f p = f x p
 
--- what a comparison tells, where a shortening failed and where none did
-
-pub told_shortened : (r : Result Bool RestartError) (bodies : List (List ℕ)) (m : Memory) (pending : Option Record) (cutting : Bool) → cutting ≡ true
-    → IfOk r (λ shortened. shortened ≡ true → bodies ≡ bodies_of (short m.records.items)) → IfOk r (λ shortened. shortened ≡ false → bodies ≡ bodies_of (on_disk m))
-    → IfOk r (λ other. bodies ≡ bodies_of (list_found m pending cutting other))
-told_shortened (Ok shortened) bodies m pending true e first second = found_shortened bodies m pending shortened first second
-told_shortened (Err x) bodies m pending true e first second = tt
-told_shortened r bodies m pending false e first second = absurd cc
-
-pub told_listed : (r : Result Bool RestartError) (bodies : List (List ℕ)) (m : Memory) (pending : Option Record) (cutting : Bool) → cutting ≡ false → IfOk r (AreBodiesWithOrWithout bodies (on_disk m) pending)
-    → IfOk r (λ other. bodies ≡ bodies_of (list_found m pending cutting other))
-told_listed r bodies m pending false e told = if_ok r (found_list bodies m pending) told
-told_listed r bodies m pending true e told = absurd cc
-
-pub some_shortened : (r : Result Bool RestartError) (pending : Option Record) (cutting : Bool) → cutting ≡ true → IfOk r (λ other. other ≡ true → cutting ≡ false → pending ≢ None)
-some_shortened (Ok x) pending true e = λ other f. absurd cc
-some_shortened (Err x) pending true e = tt
-some_shortened r pending false e = absurd cc
-
-pub some_listed : (r : Result Bool RestartError) (bodies : List (List ℕ)) (list : List Record) (pending : Option Record) (cutting : Bool) → IfOk r (AreBodiesWithOrWithout bodies list pending)
-    → IfOk r (λ other. other ≡ true → cutting ≡ false → pending ≢ None)
-some_listed r bodies list pending cutting told = if_ok r (λ there is other f. found_pending bodies list pending there is other) told
-
 pub neither_listed : (r : Result Bool RestartError) (log : FrontState) (m : Memory) (pending : Option Record) (cutting : Bool) → cutting ≡ false → IfErr r (TellsOtherRecords log (on_disk m) pending)
-    → IfErr r (λ error. IsDamage error → log.bodies ≢ bodies_of (list_found m pending cutting true))
+    → IfErr r (λ error. IsDamage error → log.bodies ≢ bodies_of (other_list_of m pending cutting))
 neither_listed r log m pending false e told = if_error r (not_the_other log (on_disk m) pending) told
 neither_listed r log m pending true e told = absurd cc
-
-pub uncut_list : (m : Memory) (records : List Record) → m.cut ≡ 0 → records ≡ m.records.items → records ≡ on_disk m
-uncut_list m records none same = same ∙ sym (ap (λ (n : ℕ). listed n m.records.items) none)
-
-pub own_list : (m : Memory) (pending : Option Record) (cutting other : Bool) → other ≡ false → on_disk m ≡ list_found m pending cutting other
-own_list m pending cutting false e = refl
-own_list m pending cutting true e = absurd cc
-
-pub short_list : (m : Memory) (pending : Option Record) (cutting other : Bool) → other ≡ true → cutting ≡ true → short m.records.items ≡ list_found m pending cutting other
-short_list m pending true true e f = refl
-short_list m pending true false e f = absurd cc
-short_list m pending false other e f = absurd cc
-
-pub longer_list : (m : Memory) (pending : Option Record) (r : Record) (cutting other : Bool) → other ≡ true → cutting ≡ false → pending ≡ Some r → on_disk m ++ r ∷ [] ≡ list_found m pending cutting other
-longer_list m None r cutting other e f g = absurd cc
-longer_list m (Some s) r false true e f g = ap (λ (x : Record). on_disk m ++ x ∷ []) (unsome r s (sym g))
-longer_list m (Some s) r false false e f g = absurd cc
-longer_list m (Some s) r true other e f g = absurd cc
-
--- the records then
-
-pub leaves_own : (records : List Record) (pending : Option Record) (new : List Record) (cutting other : Bool) → other ≡ false → new ≡ records → RestartLeaves records pending new (is_there cutting other)
-leaves_own records pending new cutting false e same = same
-leaves_own records pending new cutting true e same = absurd cc
-
-pub leaves_short : (records : List Record) (pending : Option Record) (new : List Record) (cutting other : Bool) → other ≡ true → cutting ≡ true → new ≡ records → RestartLeaves records pending new (is_there cutting other)
-leaves_short records pending new true true e f same = same
-leaves_short records pending new true false e f same = absurd cc
-leaves_short records pending new false other e f same = absurd cc
-
-pub leaves_more : (records : List Record) (pending : Option Record) (new : List Record) (r : Record) (cutting other : Bool) → other ≡ true → cutting ≡ false → pending ≡ Some r → new ≡ records ++ r ∷ []
-    → RestartLeaves records pending new (is_there cutting other)
-leaves_more records None new r cutting other e f g same = absurd cc
-leaves_more records (Some s) new r false true e f g same = same ∙ ap (λ (x : Record). records ++ x ∷ []) (unsome r s (sym g))
-leaves_more records (Some s) new r false false e f g same = absurd cc
-leaves_more records (Some s) new r true other e f g same = absurd cc
 
 pub leaves_apart : (records : List Record) (pending : Option Record) (new : List Record) (there : Bool) → RestartLeaves records pending new there → PartsAreApart (held_parts (reverse records)) → PartsAreApart (held_parts (reverse (added_to records pending)))
     → PartsAreApart (held_parts (reverse new))
@@ -184,13 +128,12 @@ leaves_apart records (Some r) new true same apart left = subst (λ (l : List Rec
 
 -- a memory with the same list
 
-pub same_found : (m after : Memory) (pending : Option Record) (cutting other : Bool) → after.records.items ≡ m.records.items → after.cut ≡ m.cut → list_found after pending cutting other ≡ list_found m pending cutting other
-same_found m after pending cutting false records cut = same_on_disk m after records cut
-same_found m after pending true true records cut = ap short records
-same_found m after pending false true records cut = ap (λ (l : List Record). added_to l pending) (same_on_disk m after records cut)
+pub same_other : (m after : Memory) (pending : Option Record) (cutting : Bool) → after.records.items ≡ m.records.items → after.cut ≡ m.cut → other_list_of after pending cutting ≡ other_list_of m pending cutting
+same_other m after pending true records cut = ap short records
+same_other m after pending false records cut = ap (λ (l : List Record). added_to l pending) (same_on_disk m after records cut)
 
 -- what the disk of a node that is down has, by the records alone
-pub up_to_found : (node nodes : ℕ) (m : Memory) (pending : Option Record) (cutting : Bool) → m.cut ≤ length m.records.items → (c : List ℕ) → IsEither node nodes (on_disk m) (list_found m pending cutting true) c
+pub up_to_found : (node nodes : ℕ) (m : Memory) (pending : Option Record) (cutting : Bool) → m.cut ≤ length m.records.items → (c : List ℕ) → IsEither node nodes (on_disk m) (other_list_of m pending cutting) c
     → IsUpToWithOrWithout node nodes m.records.items pending c
 up_to_found node nodes m pending true within c told = up_to_short node nodes c m.cut m.records.items pending within told
 up_to_found node nodes m pending false within c told = up_to_either node nodes c m.cut m.records.items pending within told
@@ -200,9 +143,6 @@ up_to_found node nodes m pending false within c told = up_to_either node nodes c
 pub pushed_list : (cut : ℕ) (records pushed : List Record) (r copy : Record) → cut ≤ length records → pushed ≡ records ++ copy ∷ [] → copy ≡ r → listed cut pushed ≡ listed cut records ++ r ∷ []
 pushed_list cut records pushed r copy within items same =
     ap (λ (l : List Record). listed cut l) items ∙ ap (λ (x : Record). listed cut (records ++ x ∷ [])) same ∙ listed_more cut records r within
-
-pub pushed_within : (cut : ℕ) (records pushed : List Record) (copy : Record) → cut ≤ length records → pushed ≡ records ++ copy ∷ [] → cut ≤ length pushed
-pushed_within cut records pushed copy within items = omega (arith, within, ap (λ (l : List Record). length l) items, length-append records (copy ∷ []))
 
 pub always_ok : {T E : Type 0} (r : Result T E) (P : Type 0) → P → OnOk r P
 always_ok (Ok x) P p = p
@@ -227,9 +167,9 @@ not_listed state faults old new log records others pending (Damaged at kept foun
 not_listed state faults old new log records others pending NoMemory other never told = tt
 
 -- a memory that was made of its records is that of a node that is up, where its log is started
-pub up_made : {D : Type 0} (state : D → DiskState) (redo : AppenderState D) (m : Memory) (node nodes : ℕ) (list : List Record) → redo.node ≡ node → redo.nodes ≡ nodes → on_disk m ≡ list → m.cut ≤ length m.records.items → IsMemory m → HasDecisionRoom m
+pub up_made : {D : Type 0} (state : D → DiskState) (redo : AppenderState D) (m : Memory) (node nodes : ℕ) (list : List Record) → redo.node ≡ node → redo.nodes ≡ nodes → on_disk m ≡ list → HasFront m → IsMemory m → HasDecisionRoom m
     → redo.phase ≡ Started → IsLogOf state redo (bodies_of list) → ((state redo.disk).honest → StandsFor (state redo.disk) node nodes (bodies_of list)) → vec_len m.held ≤ redo.spare_bodies → 11 * vec_len m.held ≤ redo.spare_bytes → IsNodeUp state redo m
-up_made state redo m node nodes list e f same within memory room started log stands spare_bodies spare_bytes = record {
+up_made state redo m node nodes list e f same front memory room started log stands spare_bodies spare_bytes = record {
   memory = memory;
   room = room;
   started = started;
@@ -237,7 +177,7 @@ up_made state redo m node nodes list e f same within memory room started log sta
     log = log;
     stands = λ h c image. still_stands node redo.node nodes redo.nodes (sym e) (sym f) (bodies_of list) (bodies_of list) refl c (stands h c image);
   });
-  within = within;
+  front = front;
   spare_bodies = spare_bodies;
   spare_bytes = spare_bytes;
 }

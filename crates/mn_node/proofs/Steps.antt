@@ -23,8 +23,9 @@ use Rattle.mn_redo.specs.declared.redo.Phase.TheVariants.{Started}
 use Rattle.mn_mini.specs.declared.record.Record.{Record}
 use Rattle.mn_mini.specs.RecordGrammar.{record_bytes}
 use Rattle.mn_node.specs.declared.memory.Memory.{Memory}
-use Rattle.mn_node.specs.Memory.{IsMemory, HasDecisionRoom}
+use Rattle.mn_node.specs.Memory.{IsMemory, HasDecisionRoom, HasFront}
 use Rattle.mn_node.specs.Node.{IsLogFor, IsNodeUp, bodies_of, listed, on_disk}
+use Rattle.mn_node.proofs.Fronts.{front_more, front_same}
 use Rattle.mn_node.proofs.Listed.{listed_more}
 
 pub one_body_more : (records : List Record) (r : Record) → bodies_of records ++ record_bytes r ∷ [] ≡ bodies_of (records ++ r ∷ [])
@@ -35,19 +36,15 @@ more_on_disk : (before after : Memory) (r : Record) → before.cut ≤ length be
 more_on_disk before after r within records cut =
     ap (λ (n : ℕ). listed n after.records.items) cut ∙ ap (λ (l : List Record). listed before.cut l) records ∙ listed_more before.cut before.records.items r within
 
-more_within : (before after : Memory) (r : Record) → before.cut ≤ length before.records.items → after.records.items ≡ before.records.items ++ r ∷ [] → after.cut ≡ before.cut → after.cut ≤ length after.records.items
-more_within before after r within records cut =
-    omega (arith, within, cut, ap length records, length-append before.records.items (r ∷ []))
-
-pub up_added : {D : Type 0} (state : D → DiskState) (new : AppenderState D) (before after : Memory) (r : Record) → before.cut ≤ length before.records.items → new.phase ≡ Started → IsLogFor state new (bodies_of (on_disk before) ++ record_bytes r ∷ [])
-    → IsMemory after → HasDecisionRoom after → after.records.items ≡ before.records.items ++ r ∷ [] → after.cut ≡ before.cut
+pub up_added : {D : Type 0} (state : D → DiskState) (new : AppenderState D) (before after : Memory) (r : Record) → HasFront before → new.phase ≡ Started → IsLogFor state new (bodies_of (on_disk before) ++ record_bytes r ∷ [])
+    → IsMemory after → HasDecisionRoom after → after.records.items ≡ before.records.items ++ r ∷ [] → after.cut ≡ before.cut → after.front ≡ before.front
     → vec_len after.held ≤ new.spare_bodies → 11 * vec_len after.held ≤ new.spare_bytes → IsNodeUp state new after
-up_added state new before after r within started log memory room records cut spare_bodies spare_bytes = record {
+up_added state new before after r front started log memory room records cut same spare_bodies spare_bytes = record {
   memory = memory;
   room = room;
   started = started;
-  log = subst (IsLogFor state new) (one_body_more (on_disk before) r ∙ ap bodies_of (sym (more_on_disk before after r within records cut))) log;
-  within = more_within before after r within records cut;
+  log = subst (IsLogFor state new) (one_body_more (on_disk before) r ∙ ap bodies_of (sym (more_on_disk before after r front.within records cut))) log;
+  front = front_more before after r front records cut same;
   spare_bodies = spare_bodies;
   spare_bytes = spare_bytes;
 }
@@ -56,10 +53,10 @@ pub same_on_disk : (m after : Memory) → after.records.items ≡ m.records.item
 same_on_disk m after records cut = ap (λ (n : ℕ). listed n after.records.items) cut ∙ ap (λ (l : List Record). listed m.cut l) records
 
 -- room was made, in memory and for the log
-pub room_made : {D : Type 0} (state : D → DiskState) (old new : AppenderState D) (m after : Memory) → IsNodeUp state old m → IsMemory after → HasDecisionRoom after → after.records.items ≡ m.records.items → after.cut ≡ m.cut → vec_len after.held ≡ vec_len m.held → new.phase ≡ old.phase
+pub room_made : {D : Type 0} (state : D → DiskState) (old new : AppenderState D) (m after : Memory) → IsNodeUp state old m → IsMemory after → HasDecisionRoom after → after.records.items ≡ m.records.items → after.cut ≡ m.cut → after.front ≡ m.front → vec_len after.held ≡ vec_len m.held → new.phase ≡ old.phase
     → ((list : List (List ℕ)) → IsLogOf state old list → IsLogOf state new list) → new.node ≡ old.node → new.nodes ≡ old.nodes → ((state old.disk).honest → DiskStays (state old.disk) (state new.disk)) → ((state new.disk).honest → (state old.disk).honest)
     → old.spare_bodies ≤ new.spare_bodies → old.spare_bytes ≤ new.spare_bytes → IsNodeUp state new after
-room_made state old new m after up memory room records cut held phase keeps node nodes stays no_better fewer less = record {
+room_made state old new m after up memory room records cut front held phase keeps node nodes stays no_better fewer less = record {
   memory = memory;
   room = room;
   started = phase ∙ up.started;
@@ -69,7 +66,7 @@ room_made state old new m after up memory room records cut held phase keeps node
         let stands = up.log.stands (no_better h) c ((stays (no_better h)).images c image) in
         subst (λ (n : ℕ). Stands n new.nodes c (bodies_of (on_disk m))) (sym node) (subst (λ (n : ℕ). Stands old.node n c (bodies_of (on_disk m))) (sym nodes) stands);
   });
-  within = omega (arith, up.within, cut, ap length records);
+  front = front_same m after up.front records cut front;
   spare_bodies = omega (arith, held, up.spare_bodies, fewer);
   spare_bytes = omega (arith, held, up.spare_bytes, less);
 }
@@ -166,13 +163,13 @@ stops_earlier state faults old mid new records before r stop goes is_disk rests 
 
 -- a logged record that the memory then takes leaves the node up
 pub up_logged : {D : Type 0} (state : D → DiskState) (redo : AppenderState D) (m after : Memory) (r : Record) (count : ℕ) → IsLogged state redo m r count → IsMemory after → HasDecisionRoom after
-    → after.records.items ≡ m.records.items ++ r ∷ [] → after.cut ≡ m.cut → vec_len after.held ≤ vec_len m.held + 1 → IsNodeUp state redo after
-up_logged state redo m after r count logged memory room records cut held = record {
+    → after.records.items ≡ m.records.items ++ r ∷ [] → after.cut ≡ m.cut → after.front ≡ m.front → vec_len after.held ≤ vec_len m.held + 1 → IsNodeUp state redo after
+up_logged state redo m after r count logged memory room records cut front held = record {
   memory = memory;
   room = room;
   started = logged.started;
-  log = subst (λ (l : List Record). IsLogFor state redo (bodies_of l)) (sym (more_on_disk m after r logged.within records cut)) logged.log;
-  within = more_within m after r logged.within records cut;
+  log = subst (λ (l : List Record). IsLogFor state redo (bodies_of l)) (sym (more_on_disk m after r logged.front.within records cut)) logged.log;
+  front = front_more m after r logged.front records cut front;
   spare_bodies = omega (arith, held, logged.spare_bodies);
   spare_bytes = omega (arith, held, logged.spare_bytes);
 }

@@ -1,6 +1,6 @@
 -- What a node keeps in memory.
 use Rattle.std.specs.Prelude.{◌≡◌, ◌≤◌, ℕ, ◌+◌, Bool, List, length, reverse, Option, None}
-use Rattle.std.specs.Prelude.{vec_len, vec_capacity}
+use Rattle.std.specs.Prelude.{take, vec_len, vec_capacity}
 use Rattle.std.specs.List.{list_any, AllByRecursion}
 use Rattle.mn_base.specs.Ids.{tid_same}
 use Rattle.mn_base.specs.declared.ids.Tid.{Tid}
@@ -11,9 +11,11 @@ use Rattle.mn_mini.specs.Mini.{space_size}
 use Rattle.mn_mini.specs.Node.{HeldPart, held_parts, has_forced, space_of, Response, only_reply}
 use Rattle.mn_mini.specs.Node.{after_locks, clash_of}
 use Rattle.mn_mini.specs.RecordGrammar.{IsRecord}
+use Rattle.mn_mini.specs.Short.{short}
 use Rattle.mn_page.specs.Base.{base_of}
 use Rattle.mn_locks.specs.declared.hold.Hold.{Hold}
 use Rattle.mn_node.specs.declared.memory.Memory.{Memory}
+use Rattle.mn_node.specs.declared.memory.Shortened.{Shortened}
 use Rattle.mn_node.specs.declared.memory.Tested.{Tested}
 use Rattle.mn_node.specs.declared.memory.Tested.TheVariants as Result
 use Rattle.mn_node.specs.declared.held.Vote.{Vote}
@@ -40,6 +42,16 @@ IsMemory m =
     IsMadeByRecords (base_of m.nodes m.node) m.records.items m.space m.locks.holds
     m.forced.items
     m.held.items
+
+-- what is kept of the first records as the log has them: their shortened list, and the votes for
+-- the parts that they hold
+pub record IsFront (records : List Record) (cut : ℕ) (front : Shortened) : Type 0 where
+  pub within : cut ≤ length records
+  pub listed : front.list.items ≡ short (take cut records)
+  pub held : AreHeldVotes (take cut records) front.held.items
+
+abbrev pub HasFront : Memory → Type 0
+HasFront m = IsFront m.records.items m.cut m.front
 
 -- the room for a decision of each held part
 abbrev pub HasDecisionRoom : Memory → Type 0

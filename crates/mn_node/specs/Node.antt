@@ -23,7 +23,7 @@ use Rattle.mn_node.specs.declared.logging.Logging.TheVariants.{NoRoom, Unshorten
 use Rattle.mn_node.specs.declared.requests.Served.{Served}
 use Rattle.mn_node.specs.declared.requests.Served.TheVariants as Serve
 use Rattle.mn_page.specs.Base.{base_of}
-use Rattle.mn_node.specs.Memory.{IsMemory, HasDecisionRoom}
+use Rattle.mn_node.specs.Memory.{IsMemory, HasDecisionRoom, HasFront}
 
 -- the bodies of records
 abbrev pub bodies_of : List Record → List (List ℕ)
@@ -58,7 +58,7 @@ pub record IsNodeUp {D : Type 0} (state : D → DiskState) (redo : AppenderState
   pub room : HasDecisionRoom m
   pub started : redo.phase ≡ Started
   pub log : IsLogFor state redo (bodies_of (on_disk m))
-  pub within : m.cut ≤ length m.records.items
+  pub front : HasFront m
   pub spare_bodies : vec_len m.held ≤ redo.spare_bodies
   pub spare_bytes : 11 * vec_len m.held ≤ redo.spare_bytes
 
@@ -228,6 +228,7 @@ Handled state faults redo m request stop (Serve.Stopped left cutting) new after 
     (after.records.items ≡ m.records.items) × ((node_answer m request).added ≡ Some left)
     × Stops state faults redo.disk new.disk redo.node redo.nodes m.records.items m.cut after.cut
     cutting left stop
+    × HasFront after
 
 -- a reply that is Done
 abbrev pub IsDone : NodeReply → Type 0
@@ -257,7 +258,7 @@ pub record IsLogged {D : Type 0} (state : D → DiskState) (redo : AppenderState
   pub ranges : count ≤ m.locks.spare
   pub started : redo.phase ≡ Started
   pub log : IsLogFor state redo (bodies_of (on_disk m ++ r ∷ []))
-  pub within : m.cut ≤ length m.records.items
+  pub front : HasFront m
   pub spare_bodies : vec_len m.held + 1 ≤ redo.spare_bodies
   pub spare_bytes : 11 * (vec_len m.held + 1) ≤ redo.spare_bytes
 
@@ -270,10 +271,12 @@ LoggingLeaves state faults redo m r count stop Unshortened new after =
     (after.records.items ≡ m.records.items)
     × Stops state faults redo.disk new.disk redo.node redo.nodes m.records.items m.cut after.cut
     true r stop
+    × HasFront after
 LoggingLeaves state faults redo m r count stop Stopped new after =
     (after.records.items ≡ m.records.items)
     × Stops state faults redo.disk new.disk redo.node redo.nodes m.records.items m.cut after.cut
     false r stop
+    × HasFront after
 LoggingLeaves state faults redo m r count stop Logged new after =
     IsLogged state new after r count × (after.records.items ≡ m.records.items)
     × (vec_len after.held ≡ vec_len m.held) × (stop ≡ None)

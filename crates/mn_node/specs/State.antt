@@ -1,6 +1,6 @@
 -- What contracts see of a node.
 use Rattle.std.specs.Prelude.{◌≡◌, ◌<◌, ◌≤◌, ℕ, Bool, true, false, List, [], reverse, get_or}
-use Rattle.std.specs.Prelude.{length, Option, Some, None, take, ⊤}
+use Rattle.std.specs.Prelude.{length, Option, Some, None, IsSome, take, ⊤}
 use Rattle.std.specs.List.{AllByRecursion}
 use Rattle.mn_base.specs.declared.gate.StopAt.{StopAt}
 use Rattle.mn_io.specs.DiskModel.{DiskState}
@@ -17,7 +17,10 @@ use Rattle.mn_mini.specs.Node.{Response, answer, held_parts}
 use Rattle.mn_mini.specs.RecordGrammar.{IsRecord, SpellsNone}
 use Rattle.mn_mini.specs.Short.{short}
 use Rattle.mn_node.specs.declared.memory.Memory.{Memory}
+use Rattle.mn_node.specs.declared.restart.Found.{Found}
+use Rattle.mn_node.specs.declared.restart.Found.TheVariants.{Own, Longer, AllShortened}
 use Rattle.mn_page.specs.Base.{base_of}
+use Rattle.mn_node.specs.Memory.{HasFront}
 use Rattle.mn_node.specs.Node.{IsNodeUp, NoStopIsDue, StandsForEither, Stops, added_to, bodies_of}
 use Rattle.mn_node.specs.Node.{IsUpToWithOrWithout, StandsUpTo, listed, on_disk}
 
@@ -44,10 +47,32 @@ abbrev pub other_list : Bool → List Record → List Record → Option Record �
 other_list true list records pending = short records
 other_list false list records pending = added_to list pending
 
--- the list that was found: its own, or the other
-abbrev pub list_found : Memory → Option Record → Bool → Bool → List Record
-list_found m pending cutting false = on_disk m
-list_found m pending cutting true = other_list cutting (on_disk m) m.records.items pending
+-- the same of what a node keeps in memory
+abbrev pub other_list_of : Memory → Option Record → Bool → List Record
+other_list_of m pending cutting = other_list cutting (on_disk m) m.records.items pending
+
+-- the list that was found: the node's own, that and the pending record, or all records, shortened
+abbrev pub list_of : Memory → Option Record → Found → List Record
+list_of m pending Own = on_disk m
+list_of m pending Longer = added_to (on_disk m) pending
+list_of m pending (AllShortened list) = short m.records.items
+
+-- there is a pending record where it was found, and a shortened list is that of all records
+abbrev pub FitsMemory : Memory → Option Record → Found → Type 0
+FitsMemory m pending Own = ⊤
+FitsMemory m pending Longer = IsSome pending
+FitsMemory m pending (AllShortened list) = list.items ≡ short m.records.items
+
+-- which other list may be found, by whether the disk failed while the log was shortened
+abbrev pub MayBeFound : Bool → Found → Type 0
+MayBeFound cutting Own = ⊤
+MayBeFound cutting Longer = cutting ≡ false
+MayBeFound cutting (AllShortened list) = cutting ≡ true
+
+-- the pending record was found
+abbrev pub is_longer : Found → Bool
+is_longer Longer = true
+is_longer found = false
 
 -- the pending record that its disk may have behind its list
 abbrev pub left_behind_list : Bool → Option Record → Option Record
@@ -61,13 +86,13 @@ pub record IsNode {D : Type 0} (state : D → DiskState) (redo : AppenderState D
   pub up : down ≡ false → IsNodeUp state redo m
   pub settled : down ≡ false → pending ≡ None
   pub whole : down ≡ false → cutting ≡ false
-  pub within : m.cut ≤ length m.records.items
+  pub front : HasFront m
   pub sound : AllByRecursion IsRecord (added_to m.records.items pending)
   pub apart : PartsAreApart (held_parts (reverse m.records.items))
   pub apart_left : PartsAreApart (held_parts (reverse (added_to m.records.items pending)))
   pub stands : (state redo.disk).honest
       → StandsForEither (state redo.disk) redo.node redo.nodes (on_disk m)
-      (list_found m pending cutting true)
+      (other_list_of m pending cutting)
   pub header : (state redo.disk).honest → HasHeader (state redo.disk)
   pub node : m.node ≡ redo.node
   pub nodes : m.nodes ≡ redo.nodes

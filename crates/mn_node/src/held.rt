@@ -1,11 +1,12 @@
-ghost use Rattle.std.specs.Prelude.{◌≡◌, Bool, List, reverse};
+ghost use Rattle.std.specs.Prelude.{◌≡◌, Bool, IfOk, List, reverse};
 ghost use Rattle.std.specs.List.{list_any};
 ghost use Rattle.mn_base.specs.Ids.{tid_same};
 ghost use Rattle.mn_mini.specs.Node.{HeldPart, has_voted};
 ghost use Rattle.mn_node.specs.Held.{IsVote, IsVoteFor, votes_of_others};
 
-use mn_base::{Nodes, Tid};
+use mn_base::{NoMemory, Nodes, Tid};
 use mn_mini::{PartItem, Record};
+use std::alloc::Global;
 
 /// A vote whose part is held: its id, and how many records stand before its record.
 #[derive(Clone, Copy, Debug, PartialEq, Eq)]
@@ -54,6 +55,13 @@ pub fn forget(held: &mut Vec<Vote>, tid: Tid)
     ensures { held.new.items ≡ votes_of_others tid held.old.items }
 {
     held.retain(|vote| !is_same(vote.tid, tid));
+}
+
+/// A copy of votes.
+pub fn copy_of(alloc: Global, held: &[Vote]) -> Result<Vec<Vote>, NoMemory>
+    ensures { IfOk result (λ copy. copy.items ≡ held.now) }
+{
+    Ok(held.to_vec(alloc)?)
 }
 
 /// The part of a vote.

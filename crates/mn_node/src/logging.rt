@@ -7,13 +7,14 @@ ghost use Rattle.mn_mini.specs.Short.{short};
 ghost use Rattle.mn_redo.specs.Grammar.{HaveSizes, IsBeforeOrAfter, total};
 ghost use Rattle.mn_redo.specs.declared.redo.Phase.TheVariants.{Started};
 ghost use Rattle.mn_node.specs.declared.logging.Logging.TheVariants.{Logged, Unshortened};
+ghost use Rattle.mn_node.specs.Memory.{IsFront};
 ghost use Rattle.mn_node.specs.Node.{IsNodeUp, IsLogFor, HasOneBodyMore, IsUpToWithOrWithout};
 ghost use Rattle.mn_node.specs.Node.{CrashLeavesOnly, bodies_of};
 ghost use Rattle.mn_node.specs.Node.{DiskStaysIfHonest, StopLeaves, HasRoomForRecord, LogKeepsDisk};
 ghost use Rattle.mn_node.specs.Node.{KeepsNodeNumbers, LoggingLeaves};
 
 use crate::memory::Memory;
-use crate::shortening::{Spelled, due_list};
+use crate::shortening::{Due, due_list};
 use mn_base::{NoMemory, StopAt};
 use mn_io::Disk;
 use mn_mini::Record;
@@ -40,6 +41,7 @@ pub fn make_room<D: Disk>(
         (11 * (vec_len memory.new.held + 1) + bytes + more_bytes ≤ redo.new.spare_bytes) }
     ensures records { memory.new.records.items ≡ memory.old.records.items }
     ensures cut { memory.new.cut ≡ memory.old.cut }
+    ensures front { memory.new.front ≡ memory.old.front }
     ensures held { vec_len memory.new.held ≡ vec_len memory.old.held }
     ensures number { redo.new.number ≡ redo.old.number }
     ensures tail { redo.new.tail ≡ redo.old.tail }
@@ -146,16 +148,17 @@ pub fn log_bytes<D: Disk>(
 fn log_behind<D: Disk>(
     redo: &mut Appender<D>,
     memory: &mut Memory,
-    list: &Spelled,
+    due: Due,
     body: &[u8],
     ranges: usize,
     stop: Option<StopAt>,
 ) -> Logging
     requires up { IsNodeUp D.state redo.old memory.old }
-    requires bodies { list.now.bodies.items ≡ bodies_of (short memory.old.records.items) }
-    requires sizes { HaveSizes list.now.bodies.items }
-    requires total { list.now.total ≡ total list.now.bodies.items }
-    requires few { list.now.total ≤ 1_000_000_000_000 }
+    requires front { IsFront memory.old.records.items (length memory.old.records.items) due.front }
+    requires bodies { due.spelled.bodies.items ≡ bodies_of (short memory.old.records.items) }
+    requires sizes { HaveSizes due.spelled.bodies.items }
+    requires total { due.spelled.total ≡ total due.spelled.bodies.items }
+    requires few { due.spelled.total ≤ 1_000_000_000_000 }
     requires can { redo.old.number ≢ 2 ^ 63 }
     ensures leaves { (r : Record) → body.now ≡ record_bytes r
         → LoggingLeaves D.state D.faults redo.old memory.old r ranges stop result redo.new
@@ -167,6 +170,7 @@ fn log_behind<D: Disk>(
         (IsUpToWithOrWithout redo.old.node redo.old.nodes memory.old.records.items (Some r)) }
     ensures same { KeepsNodeNumbers memory.old memory.new }
 {
+    let list = due.spelled;
     let count = list.bodies.len();
     if count > 4_294_967_295 {
         return Logging::NoRoom;
@@ -178,6 +182,7 @@ fn log_behind<D: Disk>(
         return Logging::Unshortened;
     }
     memory.cut = memory.records.len();
+    memory.front = due.front;
     if !append_or_stop(redo, body, stop) {
         return Logging::Stopped;
     }
@@ -212,9 +217,9 @@ pub fn log_record<D: Disk>(
     let Ok(()) = added.write_to(line) else {
         return Logging::NoRoom;
     };
-    match due_list(alloc, redo, &memory.records) {
+    match due_list(alloc, redo, memory) {
         Err(_) => Logging::NoRoom,
         Ok(None) => log_bytes(redo, memory, line, ranges, stop),
-        Ok(Some(list)) => log_behind(redo, memory, &list, line, ranges, stop),
+        Ok(Some(due)) => log_behind(redo, memory, due, line, ranges, stop),
     }
 }

@@ -11,7 +11,8 @@ ghost use Rattle.mn_mini.specs.Node.{clash_of, is_held, with_held};
 ghost use Rattle.mn_mini.specs.RecordGrammar.{IsPart, IsRecord};
 ghost use Rattle.mn_node.specs.Part.{shared_of, alone_of};
 ghost use Rattle.mn_node.specs.Held.{AreHeldVotes, IsVote, IsVoteFor};
-ghost use Rattle.mn_node.specs.Memory.{IsMemory, HasDecisionRoom, IsTested, IsTestedFree, is_among};
+ghost use Rattle.mn_node.specs.Memory.{HasDecisionRoom, IsFront, IsMemory, IsTested, IsTestedFree};
+ghost use Rattle.mn_node.specs.Memory.{is_among};
 
 use crate::held::{Vote, forget, has_vote_for, is_same, part_of};
 use crate::part::{Mismatch, Ranges, first_mismatch, ranges_of, reads_of, write_items};
@@ -25,6 +26,27 @@ use std::alloc::Global;
 /// For how many records there is room at once.
 const RECORDS_AT_ONCE: usize = 1 << 12;
 
+/// The first records of a node as its log has them, so that a restart makes no list anew.
+#[derive(Drop)]
+pub struct Shortened {
+    /// Their list, shortened.
+    pub list: Vec<Record>,
+    /// The votes whose parts they hold, the oldest first.
+    pub held: Vec<Vote>,
+}
+
+impl Shortened {
+    /// Those of a log that wasn't shortened. It takes no memory.
+    pub fn none(alloc: Global) -> Self
+        ensures { (records : List Record) → IsFront records 0 result }
+    {
+        Shortened {
+            list: Vec::new(alloc),
+            held: Vec::new(alloc),
+        }
+    }
+}
+
 /// What a node keeps in memory: its records, and what they make of its space, its locks and the ids
 /// that may not vote. It has room for a decision of each held part.
 #[derive(Drop)]
@@ -34,6 +56,8 @@ pub struct Memory {
     pub records: Vec<Record>,
     /// How many of the records, the first, are shortened in the log.
     pub cut: usize,
+    /// Those, as the log has them.
+    pub front: Shortened,
     pub space: Space,
     pub locks: LockTable,
     pub forced: Vec<Tid>,
@@ -203,6 +227,7 @@ impl Memory {
         ensures records { self.new.records.items ≡ self.old.records.items ++ vote ∷ [] }
         ensures held { vec_len self.new.held ≡ vec_len self.old.held + 1 }
         ensures cut { self.new.cut ≡ self.old.cut }
+        ensures front { self.new.front ≡ self.old.front }
         ensures node { self.new.node ≡ self.old.node }
         ensures nodes { self.new.nodes ≡ self.old.nodes }
     {
@@ -227,6 +252,7 @@ impl Memory {
         ensures records { self.new.records.items ≡ self.old.records.items ++ executed ∷ [] }
         ensures held { vec_len self.new.held ≡ vec_len self.old.held }
         ensures cut { self.new.cut ≡ self.old.cut }
+        ensures front { self.new.front ≡ self.old.front }
         ensures node { self.new.node ≡ self.old.node }
         ensures nodes { self.new.nodes ≡ self.old.nodes }
     {
@@ -248,6 +274,7 @@ impl Memory {
             ≡ self.old.records.items ++ Record.Forced tid ∷ [] }
         ensures held { vec_len self.new.held ≡ vec_len self.old.held }
         ensures cut { self.new.cut ≡ self.old.cut }
+        ensures front { self.new.front ≡ self.old.front }
         ensures node { self.new.node ≡ self.old.node }
         ensures nodes { self.new.nodes ≡ self.old.nodes }
     {
@@ -268,6 +295,7 @@ impl Memory {
             ≡ self.old.records.items ++ Record.Decided tid yes ∷ [] }
         ensures held { vec_len self.new.held + 1 ≤ vec_len self.old.held }
         ensures cut { self.new.cut ≡ self.old.cut }
+        ensures front { self.new.front ≡ self.old.front }
         ensures node { self.new.node ≡ self.old.node }
         ensures nodes { self.new.nodes ≡ self.old.nodes }
     {
@@ -294,6 +322,7 @@ impl Memory {
         ensures records { self.new.records.items ≡ self.old.records.items }
         ensures held { vec_len self.new.held ≡ vec_len self.old.held }
         ensures cut { self.new.cut ≡ self.old.cut }
+        ensures front { self.new.front ≡ self.old.front }
         ensures node { self.new.node ≡ self.old.node }
         ensures nodes { self.new.nodes ≡ self.old.nodes }
     {

@@ -1,7 +1,7 @@
 ghost use Rattle.std.specs.Prelude.{◌≡◌, ◌≢◌, ◌≤◌, ◌<◌, ◌++◌, ◌∷◌, [], ℕ, List, Option, length};
 ghost use Rattle.std.specs.Prelude.{reverse};
 ghost use Rattle.std.specs.Prelude.{get_or, Some, None, true, false, IfOk, IfErr, OnOk, OnErr};
-ghost use Rattle.std.specs.Prelude.{MatchOption};
+ghost use Rattle.std.specs.Prelude.{MatchOption, ⊤};
 ghost use Rattle.std.specs.List.{AllByRecursion};
 ghost use Rattle.mn_io.specs.DiskModel.{LeavesOnly, NoneNew, DiskStays, WritesNothing};
 ghost use Rattle.mn_redo.specs.Appender.{IsLogOf};
@@ -16,14 +16,16 @@ ghost use Rattle.mn_mini.specs.declared.record.Record.{Record};
 ghost use Rattle.mn_node.specs.declared.restart.RestartError.TheVariants as errors;
 ghost use Rattle.mn_node.specs.Node.{LogKeepsDisk, IsNodeUp, IsEither, KeepsNodeNumbers};
 ghost use Rattle.mn_node.specs.Node.{StandsForEither, added_to, bodies_of, on_disk};
-ghost use Rattle.mn_node.specs.State.{left_behind_list, list_found};
+ghost use Rattle.mn_node.specs.Memory.{HasFront};
+ghost use Rattle.mn_node.specs.State.{FitsMemory, MayBeFound, left_behind_list, list_of};
+ghost use Rattle.mn_node.specs.State.{other_list_of};
 ghost use Rattle.mn_node.specs.Restart.{TellsOtherRecords, TellsDifferenceAt, FailsRestart};
 ghost use Rattle.mn_node.specs.Restart.{AreBodiesWithPending, FailsWithoutDamage, IsSpelledAt};
 ghost use Rattle.mn_node.specs.Restart.{BeginsWithRecords, AreBodiesWithOrWithout, DiffersFirstAt};
-ghost use Rattle.mn_node.specs.Restart.{IsDamage, TellsBadBody, RestartLeaves, is_there};
+ghost use Rattle.mn_node.specs.Restart.{IsDamage, TellsBadBody, RestartLeaves};
 
-use crate::memory::Memory;
-use crate::shortening::listed;
+use crate::held::copy_of;
+use crate::memory::{Memory, Shortened};
 use crate::start::{StartCause, start_log};
 use mn_base::{NoMemory, TryCopy};
 use mn_io::Disk;
@@ -109,23 +111,48 @@ fn spells(alloc: Global, log: &Front, number: u32, kept: &Record) -> Result<bool
     Ok(bytes.as_slice() == log.body(number))
 }
 
-/// The number of the first of these records that the log has not.
+/// A record of a list in two pieces.
+fn record_in<'a>(first: &'a [Record], rest: &'a [Record], number: usize) -> &'a Record
+    requires { number < length (first.now ++ rest.now) }
+    ensures { result.now ≡ get_or (first.now ++ rest.now) number result.now }
+{
+    if number < first.len() {
+        return &first[number];
+    }
+    let behind = number - first.len();
+    &rest[behind]
+}
+
+/// How many records a list in two pieces has. NoMemory where they can't be counted.
+fn count_of(first: &[Record], rest: &[Record]) -> Result<usize, NoMemory>
+    ensures { IfOk result (λ count. count ≡ length (first.now ++ rest.now)) }
+{
+    match first.len().checked_add(rest.len()) {
+        Some(count) => Ok(count),
+        None => Err(NoMemory),
+    }
+}
+
+/// The number of the first of these records, a list in two pieces, that the log has not.
 fn first_difference(
     alloc: Global,
     log: &Front,
-    records: &[Record],
+    first: &[Record],
+    rest: &[Record],
 ) -> Result<Option<usize>, NoMemory>
-    requires sound { AllByRecursion IsRecord records.now }
+    requires sound { AllByRecursion IsRecord (first.now ++ rest.now) }
     ensures { IfOk result (λ found.
-        MatchOption found (BeginsWithRecords log.now.bodies records.now)
-        (λ at. (at < length records.now) × DiffersFirstAt log.now.bodies records.now at)) }
+        MatchOption found (BeginsWithRecords log.now.bodies (first.now ++ rest.now))
+        (λ at. (at < length (first.now ++ rest.now))
+        × DiffersFirstAt log.now.bodies (first.now ++ rest.now) at)) }
 {
     let count = log.count() as usize;
-    for number in 0..records.len() {
+    let total = count_of(first, rest)?;
+    for number in 0..total {
         if number >= count {
             return Ok(Some(number));
         }
-        if !spells(alloc, log, number as u32, &records[number])? {
+        if !spells(alloc, log, number as u32, record_in(first, rest, number))? {
             return Ok(Some(number));
         }
     }
@@ -165,23 +192,25 @@ fn differs(alloc: Global, log: &Front, at: usize, kept: Option<Record>) -> Resta
     }
 }
 
-/// Compares what the log has behind a node's records with the record that may be there. It has
+/// Compares what the log has behind a list in two pieces with the record that may be there. It has
 /// something.
 fn compare_rest(
     alloc: Global,
     log: &Front,
-    records: &[Record],
+    first: &[Record],
+    rest: &[Record],
     pending: &Option<Record>,
 ) -> Result<bool, RestartError>
-    requires sound { AllByRecursion IsRecord (added_to records.now pending.now) }
-    requires front { BeginsWithRecords log.now.bodies records.now }
-    requires more { length records.now < length log.now.bodies }
+    requires sound { AllByRecursion IsRecord (added_to (first.now ++ rest.now) pending.now) }
+    requires front { BeginsWithRecords log.now.bodies (first.now ++ rest.now) }
+    requires more { length (first.now ++ rest.now) < length log.now.bodies }
     ensures more { IfOk result (λ there. there ≡ true) }
-    ensures listed { OnOk result (AreBodiesWithPending log.now.bodies records.now pending.now) }
-    ensures differs { IfErr result (TellsOtherRecords log.now records.now pending.now) }
+    ensures listed { OnOk result
+        (AreBodiesWithPending log.now.bodies (first.now ++ rest.now) pending.now) }
+    ensures differs { IfErr result (TellsOtherRecords log.now (first.now ++ rest.now) pending.now) }
 {
     let total = log.count();
-    let count = records.len();
+    let count = count_of(first, rest)?;
     let Some(left) = pending else {
         return Err(differs(alloc, log, count, None));
     };
@@ -194,46 +223,46 @@ fn compare_rest(
     Ok(true)
 }
 
-/// Compares the log with a node's records and the record that may be behind them. Whether that is
+/// Compares the log with a list in two pieces and the record that may be behind it. Whether that is
 /// there. The log's bodies go, so that the memory is made anew in their place.
 fn compare(
     alloc: Global,
     log: Front,
-    records: &[Record],
+    first: &[Record],
+    rest: &[Record],
     pending: &Option<Record>,
 ) -> Result<bool, RestartError>
-    requires sound { AllByRecursion IsRecord (added_to records.now pending.now) }
-    ensures listed { IfOk result (AreBodiesWithOrWithout log.bodies records.now pending.now) }
-    ensures differs { IfErr result (TellsOtherRecords log records.now pending.now) }
+    requires sound { AllByRecursion IsRecord (added_to (first.now ++ rest.now) pending.now) }
+    ensures listed { IfOk result
+        (AreBodiesWithOrWithout log.bodies (first.now ++ rest.now) pending.now) }
+    ensures differs { IfErr result (TellsOtherRecords log (first.now ++ rest.now) pending.now) }
 {
-    if let Some(at) = first_difference(alloc, &log, records)? {
-        let kept = records[at].try_copy(alloc)?;
+    if let Some(at) = first_difference(alloc, &log, first, rest)? {
+        let kept = record_in(first, rest, at).try_copy(alloc)?;
         return Err(differs(alloc, &log, at, Some(kept)));
     }
-    if log.count() as usize == records.len() {
+    let total = count_of(first, rest)?;
+    if log.count() as usize == total {
         return Ok(false);
     }
-    compare_rest(alloc, &log, records, pending)
+    compare_rest(alloc, &log, first, rest, pending)
 }
 
-/// The same of a log whose list may begin with shortened records.
+/// Compares the log with a node's list, of which the first records are shortened.
 fn compare_listed(
     alloc: Global,
     log: Front,
     memory: &Memory,
     pending: &Option<Record>,
 ) -> Result<bool, RestartError>
-    requires within { memory.now.cut ≤ length memory.now.records.items }
+    requires front { HasFront memory.now }
     requires sound { AllByRecursion IsRecord (added_to memory.now.records.items pending.now) }
     ensures listed { IfOk result (AreBodiesWithOrWithout log.bodies (on_disk memory.now) pending.now) }
     ensures differs { IfErr result (TellsOtherRecords log (on_disk memory.now) pending.now) }
 {
     short_is_like_whole();
-    if memory.cut == 0 {
-        return compare(alloc, log, &memory.records, pending);
-    }
-    let list = listed(alloc, &memory.records, memory.cut)?;
-    compare(alloc, log, &list, pending)
+    let rest = &memory.records[memory.cut..];
+    compare(alloc, log, &memory.front.list, rest, pending)
 }
 
 /// Whether the log's bodies are those of these records, and no more.
@@ -245,32 +274,48 @@ fn has_just(alloc: Global, log: &Front, records: &[Record]) -> Result<bool, NoMe
     if log.count() as usize != records.len() {
         return Ok(false);
     }
-    match first_difference(alloc, log, records)? {
+    match first_difference(alloc, log, records, &[])? {
         None => Ok(true),
         Some(_) => Ok(false),
     }
 }
 
-/// Which list a log has whose shortening failed: that of all records, shortened, or the one from
-/// before.
-fn compare_shortened(alloc: Global, log: Front, memory: &Memory) -> Result<bool, RestartError>
-    requires within { memory.now.cut ≤ length memory.now.records.items }
+/// The shortened list of all records, if a log has it whose shortening failed. Else it has the one
+/// from before.
+fn compare_shortened(
+    alloc: Global,
+    log: Front,
+    memory: &Memory,
+) -> Result<Option<Vec<Record>>, RestartError>
+    requires front { HasFront memory.now }
     requires sound { AllByRecursion IsRecord memory.now.records.items }
-    ensures shortened { IfOk result (λ shortened. shortened ≡ true
-        → log.bodies ≡ bodies_of (short memory.now.records.items)) }
-    ensures as_before { IfOk result (λ shortened. shortened ≡ false
-        → log.bodies ≡ bodies_of (on_disk memory.now)) }
+    ensures found { IfOk result (λ found.
+        MatchOption found (log.bodies ≡ bodies_of (on_disk memory.now))
+        (λ list. log.bodies ≡ bodies_of (short memory.now.records.items))) }
+    ensures list { IfOk result (λ found.
+        MatchOption found ⊤ (λ list. list.items ≡ short memory.now.records.items)) }
     ensures differs { IfErr result (TellsOtherRecords log (on_disk memory.now) None) }
     ensures other { IfErr result (λ error. IsDamage error
         → log.bodies ≢ bodies_of (short memory.now.records.items)) }
 {
     short_is_like_whole();
-    let list = shorten(alloc, &memory.records)?;
-    if has_just(alloc, &log, list.as_slice())? {
-        return Ok(true);
+    let list = shorten(alloc, &memory.records)?.into_vec();
+    if has_just(alloc, &log, &list)? {
+        return Ok(Some(list));
     }
     let _as_before = compare_listed(alloc, log, memory, &None)?;
-    Ok(false)
+    Ok(None)
+}
+
+/// Which list the log of a node has that is down.
+#[derive(Drop)]
+enum Found {
+    /// Its own.
+    Own,
+    /// Its own with the pending record behind it.
+    Longer,
+    /// All records, shortened: this list.
+    AllShortened { list: Vec<Record> },
 }
 
 /// Which list the log of a node has that is down: its own, or the other that the disk may have.
@@ -280,21 +325,38 @@ fn find_list(
     memory: &Memory,
     pending: &Option<Record>,
     cutting: bool,
-) -> Result<bool, RestartError>
-    requires within { memory.now.cut ≤ length memory.now.records.items }
+) -> Result<Found, RestartError>
+    requires front { HasFront memory.now }
     requires sound { AllByRecursion IsRecord (added_to memory.now.records.items pending.now) }
-    ensures found { IfOk result (λ other. log.bodies
-        ≡ bodies_of (list_found memory.now pending.now cutting other)) }
-    ensures some { IfOk result (λ other. other ≡ true → cutting ≡ false → pending.now ≢ None) }
+    ensures found { IfOk result
+        (λ found. log.bodies ≡ bodies_of (list_of memory.now pending.now found)) }
+    ensures fits { IfOk result (FitsMemory memory.now pending.now) }
+    ensures may { IfOk result (MayBeFound cutting) }
     ensures differs { IfErr result (TellsOtherRecords log (on_disk memory.now)
         (left_behind_list cutting pending.now)) }
     ensures neither { IfErr result (λ error. IsDamage error → log.bodies
-        ≢ bodies_of (list_found memory.now pending.now cutting true)) }
+        ≢ bodies_of (other_list_of memory.now pending.now cutting)) }
 {
     if cutting {
-        return compare_shortened(alloc, log, memory);
+        return match compare_shortened(alloc, log, memory)? {
+            Some(list) => Ok(Found::AllShortened { list }),
+            None => Ok(Found::Own),
+        };
     }
-    compare_listed(alloc, log, memory, pending)
+    if compare_listed(alloc, log, memory, pending)? {
+        return Ok(Found::Longer);
+    }
+    Ok(Found::Own)
+}
+
+/// The pending record was found behind the node's list.
+fn is_longer(found: &Found) -> bool
+    ensures { result ≡ Rattle.mn_node.specs.State.is_longer found.now }
+{
+    match found {
+        Found::Longer => true,
+        _ => false,
+    }
 }
 
 /// Makes a node's memory anew from its records, which the log has, and makes the log ready for
@@ -307,7 +369,7 @@ fn wake<D: Disk>(
     requires going { redo.old.phase ≢ Closing }
     requires nodes { 0 < memory.old.nodes }
     requires log { IsLogOf D.state redo.old (bodies_of (on_disk memory.old)) }
-    requires within { memory.old.cut ≤ length memory.old.records.items }
+    requires front { HasFront memory.old }
     requires sound { AllByRecursion IsRecord memory.old.records.items }
     requires apart { PartsAreApart (held_parts (reverse memory.old.records.items)) }
     requires stands { (D.state redo.old.disk).honest
@@ -316,6 +378,7 @@ fn wake<D: Disk>(
     ensures up { OnOk result (IsNodeUp D.state redo.new memory.new) }
     ensures records { memory.new.records.items ≡ memory.old.records.items }
     ensures cut { memory.new.cut ≡ memory.old.cut }
+    ensures front { memory.new.front ≡ memory.old.front }
     ensures stands { (D.state redo.new.disk).honest
         → StandsFor (D.state redo.new.disk) redo.old.node redo.old.nodes
         (bodies_of (on_disk memory.old)) }
@@ -347,7 +410,7 @@ fn wake_with<D: Disk>(
     requires nodes { 0 < memory.old.nodes }
     requires log { IsLogOf D.state redo.old
         (bodies_of (on_disk memory.old ++ left.now ∷ [])) }
-    requires within { memory.old.cut ≤ length memory.old.records.items }
+    requires front { HasFront memory.old }
     requires sound { AllByRecursion IsRecord (memory.old.records.items ++ left.now ∷ []) }
     requires apart { PartsAreApart
         (held_parts (reverse (memory.old.records.items ++ left.now ∷ []))) }
@@ -358,6 +421,7 @@ fn wake_with<D: Disk>(
     ensures records { OnOk result
         (memory.new.records.items ≡ memory.old.records.items ++ left.now ∷ []) }
     ensures cut { memory.new.cut ≡ memory.old.cut }
+    ensures front { memory.new.front ≡ memory.old.front }
     ensures before { OnErr result (memory.new.records.items ≡ memory.old.records.items) }
     ensures stands { (D.state redo.new.disk).honest
         → StandsFor (D.state redo.new.disk) redo.old.node redo.old.nodes
@@ -383,15 +447,18 @@ fn wake_with<D: Disk>(
     }
 }
 
-/// The same with all records shortened, as the log has them.
+/// The same with all records shortened, as this list, which the log has.
 fn wake_shortened<D: Disk>(
     alloc: Global,
     redo: &mut Appender<D>,
     memory: &mut Memory,
+    list: Vec<Record>,
 ) -> Result<(), RestartError>
     requires going { redo.old.phase ≢ Closing }
     requires nodes { 0 < memory.old.nodes }
     requires log { IsLogOf D.state redo.old (bodies_of (short memory.old.records.items)) }
+    requires front { HasFront memory.old }
+    requires list { list.items ≡ short memory.old.records.items }
     requires sound { AllByRecursion IsRecord memory.old.records.items }
     requires apart { PartsAreApart (held_parts (reverse memory.old.records.items)) }
     requires stands { (D.state redo.old.disk).honest
@@ -401,6 +468,7 @@ fn wake_shortened<D: Disk>(
     ensures records { memory.new.records.items ≡ memory.old.records.items }
     ensures cut { OnOk result (memory.new.cut ≡ length memory.old.records.items) }
     ensures before { OnErr result (memory.new.cut ≡ memory.old.cut) }
+    ensures front { OnErr result (memory.new.front ≡ memory.old.front) }
     ensures stands { (D.state redo.new.disk).honest
         → StandsFor (D.state redo.new.disk) redo.old.node redo.old.nodes
         (bodies_of (short memory.old.records.items)) }
@@ -414,14 +482,16 @@ fn wake_shortened<D: Disk>(
     ensures same { KeepsNodeNumbers memory.old memory.new }
     ensures cause { IfErr result (FailsWithoutDamage D.faults redo.old.disk redo.new.disk) }
 {
-    let before = memory.cut;
-    memory.cut = memory.records.len();
-    match wake(alloc, redo, memory) {
-        Ok(()) => Ok(()),
-        Err(error) => {
-            memory.cut = before;
-            Err(error)
+    memory.rebuild(alloc)?;
+    let held = copy_of(alloc, &memory.held)?;
+    match start_log(redo, memory.held.len()) {
+        Ok(()) => {
+            memory.cut = memory.records.len();
+            memory.front = Shortened { list, held };
+            Ok(())
         }
+        Err(StartCause::Fault) => Err(RestartError::Fault),
+        Err(_) => Err(RestartError::NoMemory),
     }
 }
 
@@ -432,52 +502,48 @@ fn wake_found<D: Disk>(
     redo: &mut Appender<D>,
     memory: &mut Memory,
     pending: &Option<Record>,
-    cutting: bool,
-    other: bool,
+    found: Found,
 ) -> Result<(), RestartError>
     requires going { redo.old.phase ≢ Closing }
     requires nodes { 0 < memory.old.nodes }
-    requires within { memory.old.cut ≤ length memory.old.records.items }
-    requires listed { other ≡ true → cutting ≡ false → pending.now ≢ None }
-    requires log { IsLogOf D.state redo.old
-        (bodies_of (list_found memory.old pending.now cutting other)) }
+    requires front { HasFront memory.old }
+    requires found { FitsMemory memory.old pending.now found }
+    requires log { IsLogOf D.state redo.old (bodies_of (list_of memory.old pending.now found)) }
     requires sound { AllByRecursion IsRecord (added_to memory.old.records.items pending.now) }
     requires apart { PartsAreApart (held_parts (reverse memory.old.records.items)) }
     requires apart_left { PartsAreApart
         (held_parts (reverse (added_to memory.old.records.items pending.now))) }
     requires stands { (D.state redo.old.disk).honest
         → StandsFor (D.state redo.old.disk) redo.old.node redo.old.nodes
-        (bodies_of (list_found memory.old pending.now cutting other)) }
+        (bodies_of (list_of memory.old pending.now found)) }
     ensures up { OnOk result (IsNodeUp D.state redo.new memory.new) }
     ensures records { OnOk result (RestartLeaves memory.old.records.items pending.now
-        memory.new.records.items (is_there cutting other)) }
-    ensures list { OnOk result
-        (on_disk memory.new ≡ list_found memory.old pending.now cutting other) }
+        memory.new.records.items (Rattle.mn_node.specs.State.is_longer found)) }
+    ensures list { OnOk result (on_disk memory.new ≡ list_of memory.old pending.now found) }
     ensures before { OnErr result (memory.new.records.items ≡ memory.old.records.items) }
     ensures cut { OnErr result (memory.new.cut ≡ memory.old.cut) }
-    ensures uncut { cutting ≡ false → OnOk result (memory.new.cut ≡ memory.old.cut) }
+    ensures front { OnErr result (memory.new.front ≡ memory.old.front) }
+    ensures uncut { MayBeFound false found → OnOk result (memory.new.cut ≡ memory.old.cut) }
     ensures stands { (D.state redo.new.disk).honest
         → StandsFor (D.state redo.new.disk) redo.old.node redo.old.nodes
-        (bodies_of (list_found memory.old pending.now cutting other)) }
+        (bodies_of (list_of memory.old pending.now found)) }
     ensures moments { (D.state redo.old.disk).honest
         → LeavesOnly (D.state redo.old.disk) (D.state redo.new.disk)
         (λ c. Stands redo.old.node redo.old.nodes c
-        (bodies_of (list_found memory.old pending.now cutting other))) }
+        (bodies_of (list_of memory.old pending.now found))) }
     ensures rests { redo.old.phase ≡ Started → (D.state redo.old.disk).honest
         → DiskStays (D.state redo.old.disk) (D.state redo.new.disk) }
     ensures continues { LogKeepsDisk D.state D.faults redo.old redo.new }
     ensures same { KeepsNodeNumbers memory.old memory.new }
     ensures cause { IfErr result (FailsWithoutDamage D.faults redo.old.disk redo.new.disk) }
 {
-    if !other {
-        return wake(alloc, redo, memory);
-    }
-    if cutting {
-        return wake_shortened(alloc, redo, memory);
-    }
-    match pending {
-        None => unreachable!(),
-        Some(left) => wake_with(alloc, redo, memory, left),
+    match found {
+        Found::Own => wake(alloc, redo, memory),
+        Found::AllShortened { list } => wake_shortened(alloc, redo, memory, list),
+        Found::Longer => match pending {
+            None => unreachable!(),
+            Some(left) => wake_with(alloc, redo, memory, left),
+        },
     }
 }
 
@@ -492,14 +558,14 @@ pub fn back<D: Disk>(
     cutting: bool,
 ) -> Result<bool, RestartError>
     requires nodes { 0 < memory.old.nodes }
-    requires within { memory.old.cut ≤ length memory.old.records.items }
+    requires front { HasFront memory.old }
     requires sound { AllByRecursion IsRecord (added_to memory.old.records.items pending.now) }
     requires apart { PartsAreApart (held_parts (reverse memory.old.records.items)) }
     requires apart_left { PartsAreApart
         (held_parts (reverse (added_to memory.old.records.items pending.now))) }
     requires stands { (D.state redo.old.disk).honest
         → StandsForEither (D.state redo.old.disk) redo.old.node redo.old.nodes
-        (on_disk memory.old) (list_found memory.old pending.now cutting true) }
+        (on_disk memory.old) (other_list_of memory.old pending.now cutting) }
     requires header { (D.state redo.old.disk).honest → HasHeader (D.state redo.old.disk) }
     ensures up { OnOk result (IsNodeUp D.state redo.new memory.new) }
     ensures records { IfOk result
@@ -507,14 +573,15 @@ pub fn back<D: Disk>(
     ensures cutting { cutting ≡ true → IfOk result (λ there. there ≡ false) }
     ensures before { OnErr result (memory.new.records.items ≡ memory.old.records.items) }
     ensures cut { OnErr result (memory.new.cut ≡ memory.old.cut) }
+    ensures front { OnErr result (memory.new.front ≡ memory.old.front) }
     ensures uncut { cutting ≡ false → OnOk result (memory.new.cut ≡ memory.old.cut) }
     ensures stands { (D.state redo.new.disk).honest
         → StandsForEither (D.state redo.new.disk) redo.old.node redo.old.nodes
-        (on_disk memory.old) (list_found memory.old pending.now cutting true) }
+        (on_disk memory.old) (other_list_of memory.old pending.now cutting) }
     ensures moments { (D.state redo.old.disk).honest
         → LeavesOnly (D.state redo.old.disk) (D.state redo.new.disk)
         (IsEither redo.old.node redo.old.nodes (on_disk memory.old)
-        (list_found memory.old pending.now cutting true)) }
+        (other_list_of memory.old pending.now cutting)) }
     ensures unwritten { (D.state redo.old.disk).honest
         → WritesNothing (D.state redo.old.disk) (D.state redo.new.disk) }
     ensures images { (D.state redo.old.disk).honest
@@ -539,10 +606,11 @@ pub fn back<D: Disk>(
     if redo.is_fresh() {
         return Err(no_log());
     }
-    let other = match find_list(alloc, log, memory, pending, cutting) {
-        Ok(other) => other,
+    let found = match find_list(alloc, log, memory, pending, cutting) {
+        Ok(found) => found,
         Err(error) => return Err(error),
     };
-    wake_found(alloc, redo, memory, pending, cutting, other)?;
-    Ok(other && !cutting)
+    let there = is_longer(&found);
+    wake_found(alloc, redo, memory, pending, found)?;
+    Ok(there)
 }

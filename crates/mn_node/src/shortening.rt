@@ -7,9 +7,12 @@ ghost use Rattle.mn_mini.specs.RecordGrammar.{IsRecord};
 ghost use Rattle.mn_mini.specs.Short.{short};
 ghost use Rattle.mn_redo.specs.Grammar.{HaveSizes};
 ghost use Rattle.mn_redo.specs.Grammar.{total as total_of};
-ghost use Rattle.mn_node.specs.Node.{bodies_of, listed};
+ghost use Rattle.mn_node.specs.Memory.{IsFront, IsMemory};
+ghost use Rattle.mn_node.specs.Node.{bodies_of};
 
-use mn_base::{NoMemory, TryCopy};
+use crate::held::copy_of;
+use crate::memory::{Memory, Shortened};
+use mn_base::NoMemory;
 use mn_io::{Bytes, Disk};
 use mn_mini::{Record, short_is_like_whole, shorten};
 use mn_redo::Appender;
@@ -63,19 +66,30 @@ fn is_due<D: Disk>(redo: &Appender<D>) -> bool
     redo.can_shorten()
 }
 
+/// A list that a log is to get: what memory then has of it, and its bodies.
+#[derive(Drop)]
+pub struct Due {
+    pub front: Shortened,
+    pub spelled: Spelled,
+}
+
 /// The shortened list of all records, where the log is to be shortened before the next record.
 pub fn due_list<D: Disk>(
     alloc: Global,
     redo: &Appender<D>,
-    records: &[Record],
-) -> Result<Option<Spelled>, NoMemory>
-    requires sound { AllByRecursion IsRecord records.now }
+    memory: &Memory,
+) -> Result<Option<Due>, NoMemory>
+    requires memory { IsMemory memory.now }
+    ensures front { IfOk result (λ due. MatchOption due ⊤
+        (λ list. IsFront memory.now.records.items (length memory.now.records.items) list.front)) }
     ensures bodies { IfOk result (λ due. MatchOption due ⊤
-        (λ list. list.bodies.items ≡ bodies_of (short records.now))) }
-    ensures sizes { IfOk result (λ due. MatchOption due ⊤ (λ list. HaveSizes list.bodies.items)) }
+        (λ list. list.spelled.bodies.items ≡ bodies_of (short memory.now.records.items))) }
+    ensures sizes { IfOk result (λ due. MatchOption due ⊤
+        (λ list. HaveSizes list.spelled.bodies.items)) }
     ensures total { IfOk result (λ due. MatchOption due ⊤
-        (λ list. list.total ≡ total_of list.bodies.items)) }
-    ensures few { IfOk result (λ due. MatchOption due ⊤ (λ list. list.total ≤ MOST_BYTES)) }
+        (λ list. list.spelled.total ≡ total_of list.spelled.bodies.items)) }
+    ensures few { IfOk result (λ due. MatchOption due ⊤
+        (λ list. list.spelled.total ≤ MOST_BYTES)) }
     ensures due { IfOk result (λ due. MatchOption due
         ((redo.now.tail < 2 ^ 20) ⊎ (redo.now.number ≡ 2 ^ 63))
         (λ list. redo.now.number ≢ 2 ^ 63)) }
@@ -84,18 +98,11 @@ pub fn due_list<D: Disk>(
     if !is_due(redo) {
         return Ok(None);
     }
-    let list = shorten(alloc, records)?;
-    Ok(Some(spell(alloc, list.as_slice())?))
-}
-
-/// The list in a log whose first records, so many, were shortened.
-pub fn listed(alloc: Global, records: &[Record], cut: usize) -> Result<Vec<Record>, NoMemory>
-    requires within { cut ≤ length records.now }
-    ensures { IfOk result (λ list. list.items ≡ listed cut records.now) }
-{
-    let mut list = shorten(alloc, &records[..cut])?.into_vec();
-    for kept in &records[cut..] {
-        list.push(kept.try_copy(alloc)?)?;
-    }
-    Ok(list)
+    let list = shorten(alloc, &memory.records)?.into_vec();
+    let spelled = spell(alloc, &list)?;
+    let held = copy_of(alloc, &memory.held)?;
+    Ok(Some(Due {
+        front: Shortened { list, held },
+        spelled,
+    }))
 }

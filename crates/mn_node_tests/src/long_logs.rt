@@ -3,7 +3,9 @@
 ghost use Rattle.std.specs.Prelude.{◌≡◌, ◌≤◌, ◌<◌, IfOk};
 ghost use Rattle.mn_mini.specs.RecordGrammar.{IsPart, IsPartItem, kind_of};
 
-use crate::nodes::{left_by, part_of, restart, start};
+use crate::nodes::Ask::{Decide, Force, List, Peek, Prepare};
+use crate::nodes::Piece::{Compare, Read, Write};
+use crate::nodes::{Said, YES, left_by, restart, says_all, start};
 use mn_base::{ClientNo, StopAt, Tid};
 use mn_memdisk::MemoryDisk;
 use mn_mini::{NodeReply, Part, PartItem, Request, SharedBytes};
@@ -186,6 +188,74 @@ fn a_stop_at_a_record_is_behind_the_shortening(rt: HostRuntime) -> Result<(), Fa
     Ok(())
 }
 
+/// Whether a node says these, shows the last three of so many writes, and does so again when it was
+/// halted and restarted.
+fn goes_on_saying(
+    alloc: Global,
+    node: &mut Node<MemoryDisk>,
+    rows: &[Said],
+    count: u32,
+) -> Result<bool, Fail>
+    requires some { 3 ≤ count }
+{
+    if !says_all(alloc, node, rows)? || !shows_last(alloc, node, count)? {
+        return Ok(false);
+    }
+    node.halt();
+    if restart(alloc, node) != Some(false) {
+        return Ok(false);
+    }
+    Ok(says_all(alloc, node, rows)? && shows_last(alloc, node, count)?)
+}
+
+const VOTE_AND_REFUSAL: &[Said] = &[
+    (Prepare(3, 1, Write(20, 0x61)), YES),
+    (Force(3, 2), "Vote { yes: false }"),
+];
+
+const IS_HELD: &[Said] = &[
+    (
+        Prepare(4, 1, Write(20, 1)),
+        "BadLock { start: 20, length: 1, holder: Tid { run: 1, client: ClientNo(3), serial: 1 } }",
+    ),
+    (Prepare(3, 2, Read(0, 1)), "BadForced"),
+    (
+        List,
+        "Tid { run: 1, client: ClientNo(3), serial: 1 } is held at [NodeNo(0), NodeNo(1)]",
+    ),
+    (Peek(20, 1), "Peeked { bytes: SharedBytes { bytes: [0] } }"),
+    (Force(3, 1), "Vote { yes: true }"),
+];
+
+const IS_DECIDED: &[Said] = &[
+    (Peek(20, 1), "Peeked { bytes: SharedBytes { bytes: [97] } }"),
+    (Prepare(3, 2, Read(0, 1)), "BadForced"),
+    (
+        Prepare(4, 1, Compare(20, 0)),
+        "BadCompare { item: 0, found: Bytes { bytes: [97] } }",
+    ),
+    (Force(3, 1), "Vote { yes: true }"),
+];
+
+#[test]
+fn a_vote_is_held_across_shortenings_and_restarts(rt: HostRuntime) -> Result<(), Fail> {
+    let alloc = rt.alloc();
+    let mut node = start(alloc, &[])?;
+    assert!(rt; says_all(alloc, &mut node, VOTE_AND_REFUSAL)?);
+    assert!(rt; writes(alloc, &mut node, 0, 33)?);
+    assert!(rt; goes_on_saying(alloc, &mut node, IS_HELD, 33)?);
+    assert!(rt; writes(alloc, &mut node, 33, 70)?);
+    assert!(rt; goes_on_saying(alloc, &mut node, IS_HELD, 70)?);
+    assert!(rt; says_all(alloc, &mut node, &[(Decide(3, 1, true), "Decided")])?);
+    assert!(rt; goes_on_saying(alloc, &mut node, IS_DECIDED, 70)?);
+    assert!(rt; node.records().len() == 73);
+    // The second time the log is shortened before write 61: the vote, the refusal, the four writes
+    // from the first time and 28 behind the restart are long. Three writes are left then, and nine
+    // and the decision come.
+    assert!(rt; closes(alloc, node)?.0 == Some(15));
+    Ok(())
+}
+
 /// Three calls read the disk, eight write its header, and four write each record.
 const CALLS: u64 = 11 + 4 * 32;
 
@@ -216,7 +286,7 @@ fn goes_on(
     if !writes(alloc, &mut node, 33, 37)? {
         return Ok(false);
     }
-    if !shows_last(alloc, &mut node, 37)? {
+    if !goes_on_saying(alloc, &mut node, &[], 37)? {
         return Ok(false);
     }
     let left = if records == 33 { 8 } else { 7 };

@@ -40,7 +40,7 @@ pub fn start(alloc: Global, fails: &[u64]) -> Result<Node<MemoryDisk>, Fail> {
 
 /// What is done at a place in the space.
 #[derive(Clone, Copy)]
-enum Piece {
+pub enum Piece {
     /// Compares the eight bytes of the count with zeros, and writes `a` into the first slot.
     Vote,
     /// Writes a byte.
@@ -54,7 +54,7 @@ enum Piece {
 /// A request: the numbers of a client and of its serial name an id, and a Prepare asks for a vote
 /// of both nodes.
 #[derive(Clone, Copy)]
-enum Ask {
+pub enum Ask {
     Prepare(u8, u8, Piece),
     Exec(u8, u8, Piece),
     Decide(u8, u8, bool),
@@ -79,7 +79,7 @@ fn tid(client: u8, serial: u8) -> Tid
 }
 
 /// A part of one item.
-pub fn part_of(alloc: Global, item: PartItem) -> Result<Part, Fail>
+fn part_of(alloc: Global, item: PartItem) -> Result<Part, Fail>
     requires { IsPartItem item }
     ensures { IfOk result IsPart }
 {
@@ -199,10 +199,10 @@ fn says(
 }
 
 /// A request, and what the node says to it.
-type Said = (Ask, &'static str);
+pub type Said = (Ask, &'static str);
 
 /// Whether the node says these, one after another.
-fn says_all(alloc: Global, node: &mut Node<MemoryDisk>, rows: &[Said]) -> Result<bool, Fail> {
+pub fn says_all(alloc: Global, node: &mut Node<MemoryDisk>, rows: &[Said]) -> Result<bool, Fail> {
     for (ask, wanted) in rows {
         if !says(alloc, node, *ask, None, wanted)? {
             return Ok(false);
@@ -222,7 +222,7 @@ pub fn restart(alloc: Global, node: &mut Node<MemoryDisk>) -> Option<bool> {
     }
 }
 
-const YES: &str = "Done { reads: Reads { kept: Nothing } }";
+pub const YES: &str = "Done { reads: Reads { kept: Nothing } }";
 
 const COUNT_IS_LOCKED: &str =
     "BadLock { start: 20, length: 1, holder: Tid { run: 1, client: ClientNo(0), serial: 1 } }";

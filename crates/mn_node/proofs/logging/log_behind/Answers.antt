@@ -6,6 +6,7 @@ use Rattle.mn_redo.specs.Redo.{StandsFor}
 use Rattle.mn_mini.specs.declared.record.Record.{Record}
 use Rattle.mn_mini.specs.Short.{short}
 use Rattle.mn_node.specs.Node.{CrashLeavesOnly, HasRoomForRecord, IsLogFor, IsUpToWithOrWithout, bodies_of, listed, on_disk}
+use Rattle.mn_node.proofs.Fronts.{front_here}
 use Rattle.mn_node.proofs.Listed.{listed_all}
 use Rattle.mn_node.proofs.Moments.{at_then}
 use Rattle.mn_node.proofs.Puts.{either_list, log_for, log_keeps, put_moments, rest_moments, short_moments, stops_same, when_failed}
@@ -39,6 +40,7 @@ returns-then-is_err-2-clause-leaves g c = λ r spelled.
           stands = λ h. either_list state old mid replaced.disk (on_disk m) (short m.records.items) list room.continues.node room.continues.nodes is (done.images (bodies_of (on_disk m)) log (room.continues.honest h));
         },
       ),
+      room.up.front,
     )
 
 pub returns-then-is_err-2-clause-continues : goal.returns-then-is_err-2-clause-continues
@@ -68,7 +70,7 @@ returns-then-is_err-2-clause-moments g c = λ r spelled.
     let log = subst (λ (l : List Record). IsLogOf state mid (bodies_of l)) (same_on_disk m memory room.records room.cut) room.up.log.log in
     let P = IsUpToWithOrWithout old.node old.nodes m.records.items (Some r) in
     let first = rest_moments state old mid.disk m (Some r) (g.D.Disk.is_disk old.disk) c.requires.up room.rests in
-    let second = short_moments state old mid replaced.disk m.records.items m.cut (Some r) list c.requires.up.within room.continues.node room.continues.nodes is (done.any_moment (bodies_of (on_disk m)) log) in
+    let second = short_moments state old mid replaced.disk m.records.items m.cut (Some r) list c.requires.up.front.within room.continues.node room.continues.nodes is (done.any_moment (bodies_of (on_disk m)) log) in
     let shortened = at_then state old.disk mid.disk replaced.disk P room.continues.honest first second in
     shortened
 
@@ -102,6 +104,7 @@ returns-then-not-append_or_stop-clause-leaves g c = λ r spelled.
         shortened = inr (all ∙ ap length room.records, kept.later, kept.honest);
         stopped = stops_same state faults replaced.disk new.disk replaced.node old.node replaced.nodes old.nodes (listed cut memory.records.items) (listed cut m.records.items) r c.args.stop kept.node kept.nodes (ap (λ (l : List Record). listed cut l) room.records) here;
       },
+      front_here m.records.items memory.records.items cut c.args.due.front c.requires.front room.records all,
     )
 
 pub returns-then-not-append_or_stop-clause-continues : goal.returns-then-not-append_or_stop-clause-continues
@@ -145,7 +148,7 @@ returns-then-not-append_or_stop-clause-moments g c = λ r spelled.
     let kept = keeps_then state faults old mid replaced room.continues (log_keeps state faults mid replaced done.node done.nodes done.honest done.no_better done.cause.later done.header) in
     let P = IsUpToWithOrWithout old.node old.nodes m.records.items (Some r) in
     let first = rest_moments state old mid.disk m (Some r) (g.D.Disk.is_disk old.disk) c.requires.up room.rests in
-    let second = short_moments state old mid replaced.disk m.records.items m.cut (Some r) list c.requires.up.within room.continues.node room.continues.nodes is (done.any_moment (bodies_of (on_disk m)) log) in
+    let second = short_moments state old mid replaced.disk m.records.items m.cut (Some r) list c.requires.up.front.within room.continues.node room.continues.nodes is (done.any_moment (bodies_of (on_disk m)) log) in
     let shortened = at_then state old.disk mid.disk replaced.disk P room.continues.honest first second in
     let ok = sym c.is_err-2.ensures.value ∙ c.if-is_err-2.false in
     let cut = c.len-memory.result in
@@ -175,7 +178,7 @@ returns-clause-moments g c = λ r spelled.
     let kept = keeps_then state faults old mid replaced room.continues (log_keeps state faults mid replaced done.node done.nodes done.honest done.no_better done.cause.later done.header) in
     let P = IsUpToWithOrWithout old.node old.nodes m.records.items (Some r) in
     let first = rest_moments state old mid.disk m (Some r) (g.D.Disk.is_disk old.disk) c.requires.up room.rests in
-    let second = short_moments state old mid replaced.disk m.records.items m.cut (Some r) list c.requires.up.within room.continues.node room.continues.nodes is (done.any_moment (bodies_of (on_disk m)) log) in
+    let second = short_moments state old mid replaced.disk m.records.items m.cut (Some r) list c.requires.up.front.within room.continues.node room.continues.nodes is (done.any_moment (bodies_of (on_disk m)) log) in
     let shortened = at_then state old.disk mid.disk replaced.disk P room.continues.honest first second in
     let ok = sym c.is_err-2.ensures.value ∙ c.if-is_err-2.false in
     let cut = c.len-memory.result in
@@ -214,11 +217,11 @@ returns-clause-leaves g c = λ r spelled.
     let made = sym c.is_err.ensures.value ∙ c.if-is_err.false in
     let more = on_ok c.make_room.result (HasRoomForRecord mid memory (length c.args.body.now) c.args.ranges) made room.more in
     let bodies = on_ok c.make_room.result (vec_len memory.held + 2 + (c.len-count.result + 1) ≤ mid.spare_bodies) made room.bodies in
-    let bytes = on_ok c.make_room.result (11 * (vec_len memory.held + 1) + length c.args.body.now + c.args.list.now.total ≤ mid.spare_bytes) made room.bytes in
+    let bytes = on_ok c.make_room.result (11 * (vec_len memory.held + 1) + length c.args.body.now + c.args.due.spelled.total ≤ mid.spare_bytes) made room.bytes in
     let fewer = on_ok c.shorten.result (mid.spare_bodies ≤ replaced.spare_bodies + length list + 1) ok done.bodies in
     let less = on_ok c.shorten.result (mid.spare_bytes ≤ replaced.spare_bytes + total list) ok done.bytes in
-    let count : length list ≤ c.len-count.result = omega (arith, c.len-count.ensures, c.args.list.now.bodies.ok.0, ap length c.deref.ensures.value) in
-    let size : total list ≤ c.args.list.now.total = omega (arith, ap total c.deref.ensures.value, c.requires.total) in (
+    let count : length list ≤ c.len-count.result = omega (arith, c.len-count.ensures, c.args.due.spelled.bodies.ok.0, ap length c.deref.ensures.value) in
+    let size : total list ≤ c.args.due.spelled.total = omega (arith, ap total c.deref.ensures.value, c.requires.total) in (
       record {
         memory = room.up.memory;
         room = room.up.room;
@@ -229,7 +232,7 @@ returns-clause-leaves g c = λ r spelled.
         ranges = more.ranges;
         started = appended.started;
         log = subst (IsLogFor state new) (ap (λ (b : List ℕ). bodies_of (listed cut memory.records.items) ++ b ∷ []) spelled ∙ one_body_more (listed cut memory.records.items) r) appended.log;
-        within = omega (arith, all);
+        front = front_here m.records.items memory.records.items cut c.args.due.front c.requires.front room.records all;
         spare_bodies = omega (arith, bodies, fewer, count, appended.spare_bodies);
         spare_bytes = omega (arith, bytes, less, size, appended.spare_bytes);
       },

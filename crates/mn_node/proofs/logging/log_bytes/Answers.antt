@@ -18,6 +18,7 @@ returns-then-not-append_or_stop-clause-leaves g c = λ r spelled.
     (ap (λ (l : List Record). listed memory.cut l) c.make_room.ensures.records) here in (
       c.make_room.ensures.records,
       record { between = old.disk; shortened = inl (refl, c.make_room.ensures.cut); stopped = since },
+      c.make_room.ensures.up.front,
     )
 
 pub returns-then-is_err-clause-moments : goal.returns-then-is_err-clause-moments
@@ -27,13 +28,13 @@ returns-then-is_err-clause-moments g c = λ r spelled.
 pub returns-then-not-append_or_stop-clause-moments : goal.returns-then-not-append_or_stop-clause-moments
 returns-then-not-append_or_stop-clause-moments g c = λ r spelled.
     let old = c.args.redo.now in
-    logging_moments g.D.Disk.state g.D.Disk.faults old c.make_room.new.redo c.append_or_stop.new.redo.disk c.args.memory.now c.make_room.new.memory r c.args.body.now (g.D.Disk.is_disk old.disk) c.requires.up c.make_room.ensures.continues c.make_room.ensures.up.within c.make_room.ensures.records spelled c.make_room.ensures.rests
+    logging_moments g.D.Disk.state g.D.Disk.faults old c.make_room.new.redo c.append_or_stop.new.redo.disk c.args.memory.now c.make_room.new.memory r c.args.body.now (g.D.Disk.is_disk old.disk) c.requires.up c.make_room.ensures.continues c.make_room.ensures.up.front.within c.make_room.ensures.records spelled c.make_room.ensures.rests
     (c.append_or_stop.ensures.moments _ c.make_room.ensures.up.log)
 
 pub returns-clause-moments : goal.returns-clause-moments
 returns-clause-moments g c = λ r spelled.
     let old = c.args.redo.now in
-    logging_moments g.D.Disk.state g.D.Disk.faults old c.make_room.new.redo c.append_or_stop.new.redo.disk c.args.memory.now c.make_room.new.memory r c.args.body.now (g.D.Disk.is_disk old.disk) c.requires.up c.make_room.ensures.continues c.make_room.ensures.up.within c.make_room.ensures.records spelled c.make_room.ensures.rests
+    logging_moments g.D.Disk.state g.D.Disk.faults old c.make_room.new.redo c.append_or_stop.new.redo.disk c.args.memory.now c.make_room.new.memory r c.args.body.now (g.D.Disk.is_disk old.disk) c.requires.up c.make_room.ensures.continues c.make_room.ensures.up.front.within c.make_room.ensures.records spelled c.make_room.ensures.rests
     (c.append_or_stop.ensures.moments _ c.make_room.ensures.up.log)
 
 pub returns-clause-leaves : goal.returns-clause-leaves
@@ -53,7 +54,7 @@ returns-clause-leaves g c = λ r spelled.
         ranges = more.ranges;
         started = appended.started;
         log = subst (IsLogFor g.D.Disk.state c.append_or_stop.new.redo) (ap (λ (b : List ℕ). bodies_of (on_disk m) ++ b ∷ []) spelled ∙ one_body_more (on_disk m) r) appended.log;
-        within = up.within;
+        front = up.front;
         spare_bodies = omega (arith, more.bodies, appended.spare_bodies);
         spare_bytes = omega (arith, more.bytes, appended.spare_bytes);
       },

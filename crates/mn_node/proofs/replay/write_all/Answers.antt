@@ -1,19 +1,19 @@
-use Rattle.std.proofs.Common.{◌≡◌, ◌+◌, ◌++◌, ◌∷◌, [], List, take, ap, sym, subst, ◌∙◌}
-use Rattle.std.proofs.lemmas.List.{take_more}
+use Rattle.std.proofs.Common.{List, reverse, refl, ap, sym, subst, ◌∙◌}
+use Rattle.std.specs.List.{AllByRecursion}
 use Rattle.mn_mini.specs.declared.record.Record.{Record}
 use Rattle.mn_mini.specs.Node.{space_of}
-use Rattle.mn_node.specs.Held.{AreHeldVotes}
-use Rattle.mn_node.proofs.Replayed.{next_record}
+use Rattle.mn_mini.specs.RecordGrammar.{IsRecord}
+use Rattle.mn_node.proofs.Fronts.{front_sound, front_space}
 use Rattle.mn_node.proofs.replay.write_all.Goals as goal
 
-pub loop-number-preserved : goal.loop-number-preserved
-loop-number-preserved c =
-    let records = c.args.records.now in
-    let n = c.loop-number.number in
-    let r = c.index-records-number.result in
-    let more : take (n + 1) records ≡ take n records ++ r ∷ [] = take_more records n r c.loop-number-test.true ∙ ap (λ (x : Record). take n records ++ x ∷ []) (sym c.index-records-number.is) in
-    record {
-      size = c.apply.ensures.whole;
-      written = c.in_ok-apply.ensures.space c.args.space.now c.loop-number.invariant.written ∙ sym (ap (λ (l : List Record). space_of c.args.space.now l) (next_record records n r c.loop-number-test.true c.index-records-number.is));
-      held = subst (λ (l : List Record). AreHeldVotes l c.apply.new.held.items) (sym more) c.in_ok-apply.ensures.held;
-    }
+pub write_from-requires-clause-sound : goal.write_from-requires-clause-sound
+write_from-requires-clause-sound c =
+    let sound = front_sound c.short_is_like_whole.ensures.grammar c.args.records.now c.args.cut c.args.front.now c.requires.front c.requires.sound in
+    subst (λ (l : List Record). AllByRecursion IsRecord l) (sym c.deref.ensures.value) sound
+
+pub returns-clause-space : goal.returns-clause-space
+returns-clause-space c =
+    let base = c.args.space.now in
+    let first = c.in_ok-write_from.ensures.space base refl in
+    let same = front_space c.short_is_like_whole.ensures.alike base c.args.records.now c.args.cut c.args.front.now c.requires.front in
+    c.in_ok-write_from-2.ensures.space base (first ∙ ap (λ (l : List Record). space_of base (reverse l)) c.deref.ensures.value ∙ same)

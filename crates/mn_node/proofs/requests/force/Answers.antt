@@ -30,7 +30,7 @@ returns-in-Stopped-clause-handled g c =
     let voted : has_voted (reverse m.records.items) c.args.tid ≡ false = ap (λ (l : List Record). has_voted (reverse l) c.args.tid) (sym c.deref.ensures.value) ∙ sym c.if-voted.ensures in
     let forced : has_forced (reverse m.records.items) c.args.tid ≡ false = sym (c.requires.up.memory.forced_are c.args.tid) ∙ search rules in
     let one : (node_answer m (Ask.Force c.args.tid)).added ≡ Some (Forced c.args.tid) = ap (λ (a : Response). a.added) (force_answer (base_of m.nodes m.node) (reverse m.records.items) c.args.tid voted forced) in
-    (leaves.0, one, leaves.1)
+    (leaves.0, one, leaves.1, leaves.2)
 
 pub returns-in-Logged-clause-handled : goal.returns-in-Logged-clause-handled
 returns-in-Logged-clause-handled g c =
@@ -39,7 +39,7 @@ returns-in-Logged-clause-handled g c =
     let voted : has_voted (reverse m.records.items) c.args.tid ≡ false = ap (λ (l : List Record). has_voted (reverse l) c.args.tid) (sym c.deref.ensures.value) ∙ sym c.if-voted.ensures in
     let forced : has_forced (reverse m.records.items) c.args.tid ≡ false = sym (c.requires.up.memory.forced_are c.args.tid) ∙ search rules in
     let told = force_answer (base_of m.nodes m.node) (reverse m.records.items) c.args.tid voted forced in (
-      up_logged g.D.Disk.state c.log_bytes.new.redo c.log_bytes.new.memory c.add_force.new.self (Forced c.args.tid) 0 leaves.0 c.add_force.ensures.memory c.add_force.ensures.room c.add_force.ensures.records c.add_force.ensures.cut (omega (arith, c.add_force.ensures.held)),
+      up_logged g.D.Disk.state c.log_bytes.new.redo c.log_bytes.new.memory c.add_force.new.self (Forced c.args.tid) 0 leaves.0 c.add_force.ensures.memory c.add_force.ensures.room c.add_force.ensures.records c.add_force.ensures.cut c.add_force.ensures.front (omega (arith, c.add_force.ensures.held)),
       ap (λ (a : Response). a.reply) told,
       c.add_force.ensures.records ∙ ap (λ (l : List Record). l ++ Forced c.args.tid ∷ []) leaves.1 ∙ sym (ap (λ (a : Response). added_to m.records.items a.added) told),
       unasked c.args.stop _ leaves.3,

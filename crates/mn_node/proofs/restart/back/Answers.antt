@@ -1,13 +1,13 @@
-use Rattle.std.proofs.Common.{inl, inr, refl, true, Err, ap, sym, subst, ◌∙◌}
+use Rattle.std.proofs.Common.{Bool, inl, inr, refl, Err, ap, sym, subst, ◌∙◌}
 use Rattle.mn_node.specs.declared.restart.RestartError.{RestartError}
 use Rattle.mn_redo.specs.declared.redo.Phase.TheVariants.{Fresh}
 use Rattle.std.proofs.Common.{◌≡◌}
 use Rattle.mn_redo.specs.Appender.{IsLogOf}
 use Rattle.mn_node.specs.Node.{bodies_of, on_disk}
-use Rattle.mn_node.specs.Restart.{FailsRestart}
-use Rattle.mn_node.specs.State.{left_behind_list, list_found}
+use Rattle.mn_node.specs.Restart.{FailsRestart, RestartLeaves}
+use Rattle.mn_node.specs.State.{MayBeFound, left_behind_list, list_of, other_list_of}
 use Rattle.mn_node.proofs.Moments.{none_new, reopened, still_stands, woken, writes_nothing}
-use Rattle.mn_node.proofs.Restarts.{found_stands, is_fresh_now, is_started, no_damage, not_opened, neither, not_listed}
+use Rattle.mn_node.proofs.Restarts.{found_stands, is_fresh_now, is_started, no_damage, not_longer, not_opened, neither, not_listed}
 use Rattle.mn_node.proofs.Steps.{keeps_then}
 use Rattle.mn_node.proofs.restart.back.Goals as goal
 
@@ -16,7 +16,7 @@ returns-in-Err-clause-cause g c =
     let old = c.args.redo.now in
     let m = c.args.memory.now in
     let pending = c.args.pending.now in
-    let others = list_found m pending c.args.cutting true in
+    let others = other_list_of m pending c.args.cutting in
     let content = (g.D.Disk.state old.disk).content in
     let left = left_behind_list c.args.cutting pending in
     let told = not_opened g.D.Disk.state g.D.Disk.faults old.disk c.reopen.new.self.disk (on_disk m) left c.in-Err.cause (λ e. c.in-Err.ensures.fault (ap Err e))
@@ -29,7 +29,7 @@ returns-in-Err-find_list-clause-cause g c =
     let old = c.args.redo.now in
     let m = c.args.memory.now in
     let pending = c.args.pending.now in
-    let others = list_found m pending c.args.cutting true in
+    let others = other_list_of m pending c.args.cutting in
     let content = (g.D.Disk.state old.disk).content in
     let log = c.in-Ok.log in
     not_listed g.D.Disk.state g.D.Disk.faults old.disk c.reopen.new.self.disk log (on_disk m) others (left_behind_list c.args.cutting pending) c.in-Err-find_list.error c.in-Err-find_list.ensures.neither
@@ -46,7 +46,7 @@ returns-in-Err-clause-moments g c honest =
     let old = c.args.redo.now in
     let m = c.args.memory.now in
     let pending = c.args.pending.now in
-    let others = list_found m pending c.args.cutting true in
+    let others = other_list_of m pending c.args.cutting in
     reopened g.D.Disk.state old c.reopen.new.self.disk (on_disk m) others (c.requires.stands honest) (c.reopen.ensures.unwritten honest)
 
 pub returns-then-is_fresh-clause-stands : goal.returns-then-is_fresh-clause-stands
@@ -59,7 +59,7 @@ returns-then-is_fresh-clause-moments g c honest =
     let old = c.args.redo.now in
     let m = c.args.memory.now in
     let pending = c.args.pending.now in
-    let others = list_found m pending c.args.cutting true in
+    let others = other_list_of m pending c.args.cutting in
     reopened g.D.Disk.state old c.reopen.new.self.disk (on_disk m) others (c.requires.stands honest) (c.reopen.ensures.unwritten honest)
 
 pub returns-in-Err-find_list-clause-stands : goal.returns-in-Err-find_list-clause-stands
@@ -72,12 +72,8 @@ returns-in-Err-find_list-clause-moments g c honest =
     let old = c.args.redo.now in
     let m = c.args.memory.now in
     let pending = c.args.pending.now in
-    let others = list_found m pending c.args.cutting true in
+    let others = other_list_of m pending c.args.cutting in
     reopened g.D.Disk.state old c.reopen.new.self.disk (on_disk m) others (c.requires.stands honest) (c.reopen.ensures.unwritten honest)
-
-pub wake_found-requires-clause-listed : goal.wake_found-requires-clause-listed
-wake_found-requires-clause-listed g c =
-    c.in-Ok-find_list.ensures.some
 
 pub wake_found-requires-clause-log : goal.wake_found-requires-clause-log
 wake_found-requires-clause-log g c =
@@ -95,10 +91,10 @@ returns-in_err-wake_found-clause-moments g c honest =
     let old = c.args.redo.now in
     let m = c.args.memory.now in
     let pending = c.args.pending.now in
-    let others = list_found m pending c.args.cutting true in
+    let others = other_list_of m pending c.args.cutting in
     let mid = c.reopen.new.self in
-    let found = list_found m pending c.args.cutting c.in-Ok-find_list.other in
-    woken g.D.Disk.state old mid c.wake_found.new.redo.disk (on_disk m) others found c.reopen.ensures.node c.reopen.ensures.nodes (found_stands old.node old.nodes m pending c.args.cutting c.in-Ok-find_list.other)
+    let found = list_of m pending c.in-Ok-find_list.found in
+    woken g.D.Disk.state old mid c.wake_found.new.redo.disk (on_disk m) others found c.reopen.ensures.node c.reopen.ensures.nodes (found_stands old.node old.nodes m pending c.args.cutting c.in-Ok-find_list.found c.in-Ok-find_list.ensures.may)
     (c.requires.stands honest) (c.reopen.ensures.unwritten honest) (c.wake_found.ensures.moments (c.reopen.ensures.honest honest))
 
 pub returns-in_err-wake_found-clause-stands : goal.returns-in_err-wake_found-clause-stands
@@ -106,10 +102,10 @@ returns-in_err-wake_found-clause-stands g c honest l image =
     let old = c.args.redo.now in
     let m = c.args.memory.now in
     let pending = c.args.pending.now in
-    let others = list_found m pending c.args.cutting true in
+    let others = other_list_of m pending c.args.cutting in
     let mid = c.reopen.new.self in
-    let found = list_found m pending c.args.cutting c.in-Ok-find_list.other in
-    found_stands old.node old.nodes m pending c.args.cutting c.in-Ok-find_list.other l
+    let found = list_of m pending c.in-Ok-find_list.found in
+    found_stands old.node old.nodes m pending c.args.cutting c.in-Ok-find_list.found c.in-Ok-find_list.ensures.may l
     (still_stands mid.node old.node mid.nodes old.nodes c.reopen.ensures.node c.reopen.ensures.nodes (bodies_of found) (bodies_of found) refl l (c.wake_found.ensures.stands honest l image))
 
 pub returns-in_err-wake_found-clause-keeps : goal.returns-in_err-wake_found-clause-keeps
@@ -117,9 +113,9 @@ returns-in_err-wake_found-clause-keeps g c honest bodies stands l image =
     let old = c.args.redo.now in
     let m = c.args.memory.now in
     let pending = c.args.pending.now in
-    let others = list_found m pending c.args.cutting true in
+    let others = other_list_of m pending c.args.cutting in
     let mid = c.reopen.new.self in
-    let found = list_found m pending c.args.cutting c.in-Ok-find_list.other in
+    let found = list_of m pending c.in-Ok-find_list.found in
     let content = (g.D.Disk.state old.disk).content in
     let same = c.one_list.ensures old.node old.nodes content c.in-Ok.log.bodies bodies (c.in-Ok.ensures.read honest) (stands content (g.D.Disk.is_disk old.disk honest).read) in
     still_stands mid.node old.node mid.nodes old.nodes c.reopen.ensures.node c.reopen.ensures.nodes (bodies_of found) bodies (sym c.in-Ok-find_list.ensures.found ∙ same) l (c.wake_found.ensures.stands (c.wake_found.ensures.continues.honest (c.reopen.ensures.honest honest)) l image)
@@ -129,10 +125,10 @@ returns-clause-moments g c honest =
     let old = c.args.redo.now in
     let m = c.args.memory.now in
     let pending = c.args.pending.now in
-    let others = list_found m pending c.args.cutting true in
+    let others = other_list_of m pending c.args.cutting in
     let mid = c.reopen.new.self in
-    let found = list_found m pending c.args.cutting c.in-Ok-find_list.other in
-    woken g.D.Disk.state old mid c.wake_found.new.redo.disk (on_disk m) others found c.reopen.ensures.node c.reopen.ensures.nodes (found_stands old.node old.nodes m pending c.args.cutting c.in-Ok-find_list.other)
+    let found = list_of m pending c.in-Ok-find_list.found in
+    woken g.D.Disk.state old mid c.wake_found.new.redo.disk (on_disk m) others found c.reopen.ensures.node c.reopen.ensures.nodes (found_stands old.node old.nodes m pending c.args.cutting c.in-Ok-find_list.found c.in-Ok-find_list.ensures.may)
     (c.requires.stands honest) (c.reopen.ensures.unwritten honest) (c.wake_found.ensures.moments (c.reopen.ensures.honest honest))
 
 pub returns-clause-stands : goal.returns-clause-stands
@@ -140,10 +136,10 @@ returns-clause-stands g c honest l image =
     let old = c.args.redo.now in
     let m = c.args.memory.now in
     let pending = c.args.pending.now in
-    let others = list_found m pending c.args.cutting true in
+    let others = other_list_of m pending c.args.cutting in
     let mid = c.reopen.new.self in
-    let found = list_found m pending c.args.cutting c.in-Ok-find_list.other in
-    found_stands old.node old.nodes m pending c.args.cutting c.in-Ok-find_list.other l
+    let found = list_of m pending c.in-Ok-find_list.found in
+    found_stands old.node old.nodes m pending c.args.cutting c.in-Ok-find_list.found c.in-Ok-find_list.ensures.may l
     (still_stands mid.node old.node mid.nodes old.nodes c.reopen.ensures.node c.reopen.ensures.nodes (bodies_of found) (bodies_of found) refl l (c.wake_found.ensures.stands honest l image))
 
 pub returns-clause-keeps : goal.returns-clause-keeps
@@ -151,9 +147,9 @@ returns-clause-keeps g c honest bodies stands l image =
     let old = c.args.redo.now in
     let m = c.args.memory.now in
     let pending = c.args.pending.now in
-    let others = list_found m pending c.args.cutting true in
+    let others = other_list_of m pending c.args.cutting in
     let mid = c.reopen.new.self in
-    let found = list_found m pending c.args.cutting c.in-Ok-find_list.other in
+    let found = list_of m pending c.in-Ok-find_list.found in
     let content = (g.D.Disk.state old.disk).content in
     let same = c.one_list.ensures old.node old.nodes content c.in-Ok.log.bodies bodies (c.in-Ok.ensures.read honest) (stands content (g.D.Disk.is_disk old.disk honest).read) in
     still_stands mid.node old.node mid.nodes old.nodes c.reopen.ensures.node c.reopen.ensures.nodes (bodies_of found) bodies (sym c.in-Ok-find_list.ensures.found ∙ same) l (c.wake_found.ensures.stands (c.wake_found.ensures.continues.honest (c.reopen.ensures.honest honest)) l image)
@@ -212,3 +208,14 @@ returns-clause-continues g c =
     let read = c.reopen.ensures in
     keeps_then g.D.Disk.state g.D.Disk.faults c.args.redo.now c.reopen.new.self c.wake_found.new.redo
     (record { node = read.node; nodes = read.nodes; honest = read.honest; no_better = read.no_better; later = read.later; header = read.header_stays }) c.wake_found.ensures.continues
+
+pub returns-clause-records : goal.returns-clause-records
+returns-clause-records g c =
+    let m = c.args.memory.now in
+    subst (λ (b : Bool). RestartLeaves m.records.items c.args.pending.now c.wake_found.new.memory.records.items b) (sym c.is_longer-there.ensures) c.in_ok-wake_found.ensures.records
+
+pub returns-clause-cutting : goal.returns-clause-cutting
+returns-clause-cutting g c is = c.is_longer-there.ensures ∙ not_longer c.args.cutting c.in-Ok-find_list.found c.in-Ok-find_list.ensures.may is
+
+pub returns-clause-uncut : goal.returns-clause-uncut
+returns-clause-uncut g c is = c.in_ok-wake_found.ensures.uncut (subst (λ (b : Bool). MayBeFound b c.in-Ok-find_list.found) is c.in-Ok-find_list.ensures.may)

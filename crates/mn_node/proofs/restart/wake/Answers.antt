@@ -2,6 +2,7 @@ use Rattle.std.proofs.Common.{List, ap, arith, length}
 use Rattle.mn_redo.specs.Grammar.{Stands}
 use Rattle.mn_mini.specs.declared.record.Record.{Record}
 use Rattle.mn_node.specs.Node.{bodies_of, on_disk}
+use Rattle.mn_node.proofs.Fronts.{front_same}
 use Rattle.mn_node.proofs.Moments.{only_same}
 use Rattle.mn_node.proofs.Restarts.{up_made}
 use Rattle.mn_node.proofs.Steps.{same_on_disk}
@@ -22,7 +23,7 @@ returns-in-Ok-clause-up g c =
     let started = c.in-Ok.ensures in
     let going = c.start_log.ensures.continues in
     up_made g.D.Disk.state c.start_log.new.redo m old.node old.nodes (on_disk was) going.node going.nodes (same_on_disk was m kept.records kept.cut)
-    (omega (arith, c.requires.within, kept.cut, ap (λ (l : List Record). length l) kept.records)) made.memory made.room
+    (front_same was m c.requires.front kept.records kept.cut kept.front) made.memory made.room
     started.started (started.log _ c.requires.log) (started.stands _ c.requires.log) (omega (arith, started.spare_bodies, c.len.ensures)) (omega (arith, started.spare_bytes, c.len.ensures))
 
 pub returns-in-Ok-clause-moments : goal.returns-in-Ok-clause-moments
@@ -36,6 +37,7 @@ returns-in-Err g c = record {
   up = tt;
   records = c.rebuild.ensures.records;
   cut = c.rebuild.ensures.cut;
+  front = c.rebuild.ensures.front;
   stands = c.start_log.ensures.keeps _ c.requires.log c.requires.stands;
   moments = λ honest. c.start_log.ensures.moments _ c.requires.log honest (c.requires.stands honest);
   rests = c.start_log.ensures.rests;

@@ -30,5 +30,5 @@ returns-clause-up g c =
     let made = c.in_ok-memory.ensures in
     let started = c.in_ok-start_log.ensures in
     let going = c.start_log.ensures.continues in
-    up_made g.D.Disk.state new m old.node old.nodes c.args.records.items going.node going.nodes (ap (λ (n : ℕ). listed n m.records.items) made.cut ∙ made.records) (omega (arith, made.cut)) made.memory made.room
+    up_made g.D.Disk.state new m old.node old.nodes c.args.records.items going.node going.nodes (ap (λ (n : ℕ). listed n m.records.items) made.cut ∙ made.records) made.front made.memory made.room
     started.started (started.log _ c.requires.log) (started.stands _ c.requires.log) (omega (arith, started.spare_bodies, c.len.ensures)) (omega (arith, started.spare_bytes, c.len.ensures))

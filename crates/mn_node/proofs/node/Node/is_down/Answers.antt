@@ -8,4 +8,4 @@ pub returns-clause-stands : goal.returns-clause-stands
 returns-clause-stands g c =
     let n = c.self.inside in
     let old = n.redo.value in
-    rw (← c.self.view_is) (λ honest l image. up_to_found old.node old.nodes n.memory n.pending n.cutting c.self.invariant.within l (c.self.invariant.stands honest l image))
+    rw (← c.self.view_is) (λ honest l image. up_to_found old.node old.nodes n.memory n.pending n.cutting c.self.invariant.front.within l (c.self.invariant.stands honest l image))

@@ -7,8 +7,9 @@ use Rattle.mn_mini.specs.Node.{held_parts}
 use Rattle.mn_mini.specs.RecordGrammar.{IsRecord}
 use Rattle.mn_mini.specs.declared.record.Record.{Record}
 use Rattle.mn_node.specs.Node.{IsEither, IsUpToWithOrWithout, StandsForEither, added_to, bodies_of, on_disk}
-use Rattle.mn_node.specs.State.{list_found}
-use Rattle.mn_node.proofs.Restarts.{leaves_apart, same_found, up_to_found}
+use Rattle.mn_node.specs.State.{other_list_of}
+use Rattle.mn_node.proofs.Fronts.{front_same}
+use Rattle.mn_node.proofs.Restarts.{leaves_apart, same_other, up_to_found}
 use Rattle.mn_node.proofs.Steps.{same_on_disk}
 use Rattle.mn_node.proofs.node.Node.restart.Goals as goal
 
@@ -37,16 +38,16 @@ returns-in-Ok-clause-moments g c =
     let n = c.self.inside in
     let old = n.redo.value in
     let moments = rw c.deref_mut.ensures.value at c.in-Ok.ensures.moments in
-    rw (← c.self.view_is) (λ honest. LeavesOnly-weaker (g.D.Disk.state old.disk) (g.D.Disk.state c.back.new.redo.disk) (IsEither old.node old.nodes (on_disk n.memory) (list_found n.memory n.pending n.cutting true))
-    (IsUpToWithOrWithout old.node old.nodes n.memory.records.items n.pending) (up_to_found old.node old.nodes n.memory n.pending n.cutting c.self.invariant.within) (moments honest))
+    rw (← c.self.view_is) (λ honest. LeavesOnly-weaker (g.D.Disk.state old.disk) (g.D.Disk.state c.back.new.redo.disk) (IsEither old.node old.nodes (on_disk n.memory) (other_list_of n.memory n.pending n.cutting))
+    (IsUpToWithOrWithout old.node old.nodes n.memory.records.items n.pending) (up_to_found old.node old.nodes n.memory n.pending n.cutting c.self.invariant.front.within) (moments honest))
 
 pub returns-in-Err-clause-moments : goal.returns-in-Err-clause-moments
 returns-in-Err-clause-moments g c =
     let n = c.self.inside in
     let old = n.redo.value in
     let moments = rw c.deref_mut.ensures.value at c.in-Err.ensures.moments in
-    rw (← c.self.view_is) (λ honest. LeavesOnly-weaker (g.D.Disk.state old.disk) (g.D.Disk.state c.back.new.redo.disk) (IsEither old.node old.nodes (on_disk n.memory) (list_found n.memory n.pending n.cutting true))
-    (IsUpToWithOrWithout old.node old.nodes n.memory.records.items n.pending) (up_to_found old.node old.nodes n.memory n.pending n.cutting c.self.invariant.within) (moments honest))
+    rw (← c.self.view_is) (λ honest. LeavesOnly-weaker (g.D.Disk.state old.disk) (g.D.Disk.state c.back.new.redo.disk) (IsEither old.node old.nodes (on_disk n.memory) (other_list_of n.memory n.pending n.cutting))
+    (IsUpToWithOrWithout old.node old.nodes n.memory.records.items n.pending) (up_to_found old.node old.nodes n.memory n.pending n.cutting c.self.invariant.front.within) (moments honest))
 
 pub returns-in-Err-clause-cause : goal.returns-in-Err-clause-cause
 returns-in-Err-clause-cause g c =
@@ -65,7 +66,7 @@ invariant_of-self g c =
       up = λ _. up;
       settled = λ _. refl;
       whole = λ _. refl;
-      within = up.within;
+      front = up.front;
       sound = up.memory.sound;
       apart = apart;
       apart_left = apart;
@@ -87,18 +88,18 @@ invariant_of-self-in-Err g c =
     let kept = c.in-Err.ensures in
     let continues = rw c.deref_mut.ensures.value at kept.continues in
     let stands = rw c.deref_mut.ensures.value at kept.stands in
-    let others = list_found m n.pending n.cutting true in
+    let others = other_list_of m n.pending n.cutting in
     let down : n.is_down ≡ true = search rules in
     record {
       up = λ up. absurd (false≢true (sym up ∙ down));
       settled = was.settled;
       whole = was.whole;
-      within = omega (arith, was.within, kept.cut, ap (λ (l : List Record). length l) kept.before);
+      front = front_same n.memory m was.front kept.before kept.cut kept.front;
       sound = subst (λ (l : List Record). AllByRecursion IsRecord (added_to l n.pending)) (sym kept.before) was.sound;
       apart = subst (λ (l : List Record). PartsAreApart (held_parts (reverse l))) (sym kept.before) was.apart;
       apart_left = subst (λ (l : List Record). PartsAreApart (held_parts (reverse (added_to l n.pending)))) (sym kept.before) was.apart_left;
       stands = λ honest.
-          let lists = subst (λ (l : List Record). StandsForEither disk old.node old.nodes (on_disk n.memory) l) (sym (same_found n.memory m n.pending n.cutting true kept.before kept.cut)) (stands honest) in
+          let lists = subst (λ (l : List Record). StandsForEither disk old.node old.nodes (on_disk n.memory) l) (sym (same_other n.memory m n.pending n.cutting kept.before kept.cut)) (stands honest) in
           let list = subst (λ (l : List Record). StandsForEither disk old.node old.nodes l others) (sym (same_on_disk n.memory m kept.before kept.cut)) lists in
           let with_nodes = subst (λ (k : ℕ). StandsForEither disk old.node k (on_disk m) others) (sym continues.nodes) list in
           subst (λ (k : ℕ). StandsForEither disk k new.nodes (on_disk m) others) (sym continues.node) with_nodes;
