@@ -1,6 +1,7 @@
 -- How a scan goes on, page by page.
-use Rattle.std.specs.Prelude.{ℕ, ◌≡◌, ◌&&◌, ◌||◌, Bool, true, false, not, nat_eq, nat_le, List, []}
+use Rattle.std.specs.Prelude.{ℕ, ◌≡◌, ◌||◌, Bool, true, false, nat_eq, nat_le, List, []}
 use Rattle.std.specs.Prelude.{◌++◌, length, take, Option, Some, None, if◌then◌else◌, unwrap_or, ⊤}
+use Rattle.std.specs.Prelude.{◌⊎◌}
 use Rattle.std.specs.Option.{option_map_or}
 use Rattle.mn_base.specs.Order.{key_le}
 use Rattle.mn_base.specs.Store.{pairs_within}
@@ -165,5 +166,6 @@ IsInTurn s p = FollowsOn s.began (key_at s) p.low p.body
 
 -- why a page is refused
 abbrev pub RefusesPage : ScanState → Addr → Page → ScanError → Type 0
-RefusesPage s addr p (refusals.BadPath at) = (at ≡ addr) × (fits s p ≡ false)
+RefusesPage s addr p (refusals.BadPath at) =
+    (at ≡ addr) × ((fits s p ≡ false) ⊎ (IsInTurn s p → ⊥))
 RefusesPage s addr p refusals.NoMemory = ⊤

@@ -8,7 +8,8 @@ use thiserror::Error;
 #[derive(Clone, Copy, Debug, PartialEq, Eq, Error)]
 pub enum ScanError {
     /// The page that was read at `addr` doesn't serve the version, doesn't cover the key at which
-    /// the scan stands, isn't one height below the page that names it, or is higher than 14.
+    /// the scan stands, isn't one height below the page that names it, or is higher than 14; or it
+    /// is a leaf that begins below the key at which the leaf before it ended.
     #[error("the page at node {}, slot {} is on no path", addr.node.0, addr.slot)]
     BadPath { addr: Addr },
     #[error("no memory")]

@@ -1,9 +1,9 @@
 ghost use Rattle.std.specs.Prelude.{◌≡◌, true, false, [], IfOk, IfErr, OnOk, OnErr, IsTrue, length};
+ghost use Rattle.std.specs.Prelude.{MatchBool};
 ghost use Rattle.std.specs.Prelude.{nat_le, unwrap_or};
 ghost use Rattle.std.specs.Option.{option_map};
 ghost use Rattle.mn_base.specs.Order.{covers_key};
 ghost use Rattle.mn_base.specs.Store.{pairs_within};
-ghost use Rattle.mn_scan.specs.declared.error.ScanError.TheVariants as refusals;
 ghost use Rattle.mn_scan.specs.Scan.{new_scan, step_of, key_at, may_be_leaf, IsNeeded, fits};
 ghost use Rattle.mn_scan.specs.Scan.{restarted, is_end, gathered, fed, leaf_taken, with_pairs};
 ghost use Rattle.mn_scan.specs.Scan.{IsInTurn, RefusesPage};
@@ -224,10 +224,21 @@ impl ScanRun {
         front.is_on_path(&self.tree, self.version, self.key(), self.above)
     }
 
+    /// Whether the page follows on the leaf before: if it is a leaf, it begins at the key at which
+    /// that one ended.
+    fn is_in_turn(&self, page: &Page) -> bool
+        ensures { MatchBool result (IsInTurn self.now page.now) (IsInTurn self.now page.now → ⊥) }
+    {
+        match &page.body {
+            Body::Leaf { .. } => !self.began || page.low.as_slice() == bytes_of(&self.at),
+            Body::Inner { .. } => true,
+        }
+    }
+
     /// Takes the page that was read at the needed address. BadPath: it doesn't serve the version,
     /// doesn't cover the key at which the scan stands, isn't one height below the page that names
-    /// it, or is higher than 14. NoMemory: there was no memory for its pairs; or it is a leaf that
-    /// begins below the key at which the leaf before it ended, as none of a frozen version does.
+    /// it, or is higher than 14; or it is a leaf that begins below the key at which the leaf before
+    /// it ended, as none of a frozen version does. NoMemory: there was no memory for its pairs.
     /// After a refusal the scan stands before its next leaf again.
     pub fn feed(&mut self, alloc: Global, addr: Addr, page: SharedPage) -> Result<(), ScanError>
         requires { IsNeeded self.old addr }
@@ -237,7 +248,7 @@ impl ScanRun {
         ensures refused { IfErr result (RefusesPage self.old addr page) }
         ensures again { OnErr result (self.new ≡ restarted self.old) }
     {
-        if !self.is_right(page.get()) {
+        if !self.is_right(page.get()) || !self.is_in_turn(page.get()) {
             self.restart();
             return Err(ScanError::BadPath { addr });
         }
@@ -256,27 +267,22 @@ impl ScanRun {
             seq: _,
             made: _,
             copied: _,
-            low,
+            low: _,
             high,
             body,
         } = page.into_page(alloc)?;
         match body {
-            Body::Leaf { pairs } => self.take_leaf(low.as_slice(), high, pairs),
+            Body::Leaf { pairs } => Ok(self.take_leaf(high, pairs)?),
             Body::Inner { .. } => unreachable!(),
         }
     }
 
     /// Takes the pairs of its next leaf, and goes on behind it.
-    fn take_leaf(&mut self, low: &[u8], high: Option<Key>, pairs: Pairs) -> Result<(), ScanError>
+    fn take_leaf(&mut self, high: Option<Key>, pairs: Pairs) -> Result<(), NoMemory>
         requires { self.old ≡ restarted self.old }
         ensures taken { OnOk result (self.new ≡ leaf_taken self.old high pairs) }
-        ensures in_turn { OnOk result (self.old.began ≡ true → low.now ≡ key_at self.old) }
-        ensures want { IfErr result (λ e. e ≡ refusals.NoMemory) }
         ensures unchanged { OnErr result (self.new ≡ self.old) }
     {
-        if self.began && low != bytes_of(&self.at) {
-            return Err(ScanError::NoMemory);
-        }
         self.gather(pairs)?;
         self.began = true;
         self.ended = self.has_enough() || is_last(&self.high, &high);
