@@ -192,6 +192,7 @@ sends_soundly known w tid c d purpose node request is step nodes sound work =
       record { few = work.few; errand_is = work.errand_is },
       subst (λ (k : ℕ). IsSoundCoordStep k (Send node request)) nodes sound,
       (refl, step),
+      tt,
     )
 
 -- It is given up
@@ -242,6 +243,7 @@ abandons_soundly known w tid c d purpose is quiet work =
       record { few = work.few; errand_is = work.errand_is },
       tt,
       λ asked. (let both : true ≡ false = sym asked ∙ quiet in absurd cc),
+      tt,
     )
 
 -- It has ended

@@ -41,7 +41,7 @@ use Rattle.mn_proxy.specs.Issues.{are_closed, tid_of}
 use Rattle.mn_proxy.specs.Jobs.{ReadsShow, ScanShown}
 use Rattle.mn_proxy.specs.State.{ProxyState}
 use Rattle.mn_proxy.specs.Tries.{IsTrying, Origin}
-use Rattle.mn_proxy.specs.Turns.{ComparesFor, MayIssue, TurnAgrees, read_mini}
+use Rattle.mn_proxy.specs.Turns.{ComparesFor, IsAsAsked, IsReadFor, MayIssue, TurnAgrees, read_mini}
 use Rattle.mn_work.specs.Walks.{IfLater}
 use Rattle.mn_work.specs.Works.{IsStartable, new_work}
 use Rattle.mn_proxy.proofs.Issues.{GoesOn, closed_are_settled, closed_follow, closed_none, closed_since, fresh_begun, fresh_next}
@@ -320,3 +320,11 @@ may_read es known w purpose place mini rest is made = record {
   made = made_read es w.op w.job purpose place mini is (ap (λ (m : Mini). m.items) made);
   shown = compares_none w.failed (seen_in rest.0.try) w.job purpose place mini is;
 }
+
+-- what is read is no plan
+pub read_asked : (known : Known) (w : Work) (purpose : Purpose) (mini : Mini) → IsReadFor purpose
+    → IsAsAsked known w purpose mini
+read_asked known w by.Catalog mini reads = tt
+read_asked known w (by.Page addr) mini reads = tt
+read_asked known w by.Count mini reads = tt
+read_asked known w (by.Plan reply) mini reads = absurd reads

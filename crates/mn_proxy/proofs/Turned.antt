@@ -1,6 +1,6 @@
 -- What is so of a turn is so of the step that it was.
 use Rattle.std.proofs.Common.{◌≡◌, ℕ, List, Option, Some, None, Result, Ok, Err, refl, subst, sym, ap}
-use Rattle.std.specs.Prelude.{IfOk, OnErr, OnOk}
+use Rattle.std.specs.Prelude.{IfOk, MatchOption, OnErr, OnOk, ⊤}
 use Rattle.mn_base.specs.declared.answer.Answer.{Answer}
 use Rattle.mn_base.specs.declared.error.NoMemory.{NoMemory}
 use Rattle.mn_base.specs.declared.op.Op.{Op}
@@ -19,7 +19,7 @@ use Rattle.mn_proxy.specs.Measure.{Falls, GoesBelow, steps_left}
 use Rattle.mn_proxy.specs.State.{ProxyState}
 use Rattle.mn_proxy.specs.Turn.{turned}
 use Rattle.mn_proxy.specs.Turn as turns
-use Rattle.mn_proxy.specs.Turns.{IsSoundTurn, TurnAgrees, with_work}
+use Rattle.mn_proxy.specs.Turns.{IsSoundTurn, IssuesAsAsked, StepIsAsAsked, TurnAgrees, with_work}
 use Rattle.mn_proxy.proofs.Answered.{answered_idle}
 use Rattle.mn_proxy.proofs.Kept.{cache_ends, cache_fails, cache_goes, catalog_ends, catalog_goes}
 use Rattle.mn_proxy.proofs.Measure.{goes_falls}
@@ -148,6 +148,15 @@ turned_ends None (Ok (steps.Issue tid mini)) answer ends = absurd cc
 turned_ends None (Ok (steps.Abandon tid)) answer ends = absurd cc
 turned_ends None (Ok (steps.Call node request)) answer ends = absurd cc
 turned_ends work (Err none) answer ends = tt
+
+-- what it issues is as it was asked for
+pub turned_asked : (q : ProxyState) (work : Option (Work × Errand)) (r : Result ProxyStep NoMemory)
+    → q.work ≡ work → IfOk (turned work r) (IsSoundTurn q.known) → IfOk r (StepIsAsAsked q)
+turned_asked q (Some (w, errand)) (Ok step) is sound =
+    subst (λ (o : Option (Work × Errand)). MatchOption o ⊤ (λ under. IssuesAsAsked q.known step under.0 under.1)) (sym is) sound.3
+turned_asked q None (Ok step) is sound =
+    subst (λ (o : Option (Work × Errand)). MatchOption o ⊤ (λ under. IssuesAsAsked q.known step under.0 under.1)) (sym is) tt
+turned_asked q work (Err none) is sound = tt
 
 -- where memory ran out
 pub turned_lost : (p q : ProxyState) (w : Work) (errand : Errand) → p.work ≡ Some (w, errand)

@@ -8,7 +8,7 @@ use Rattle.mn_base.specs.declared.ids.NodeNo.{NodeNo}
 use Rattle.mn_base.specs.declared.ids.Tid.{Tid}
 use Rattle.mn_base.specs.declared.op.Op.{Op}
 use Rattle.mn_coord.specs.Coordination.{Coordination, IsSoundStep as IsSoundCoordStep, after_step}
-use Rattle.mn_coord.specs.Coordination.{fed, step_of}
+use Rattle.mn_coord.specs.Coordination.{fed, new_coordination, step_of}
 use Rattle.mn_coord.specs.Legal.{Agrees as CoordAgrees, IsAnswered, IsAsking, MayMake}
 use Rattle.mn_coord.specs.declared.step.CoordStep.{CoordStep}
 use Rattle.mn_coord.specs.declared.step.CoordStep.TheVariants.{Abandon, Send}
@@ -49,7 +49,7 @@ use Rattle.mn_proxy.specs.Tries.{HasAsked, HasNoLeaf, HasSentNone, IsTrying, Ori
 use Rattle.mn_proxy.specs.Tries.{max_tries}
 use Rattle.mn_work.specs.Walks.{IfLater}
 use Rattle.mn_work.specs.Works.{AsksCount, AsksPage, IsJobOf, IsReadIfOn, IsStartable, IsToAsk}
-use Rattle.mn_work.specs.Works.{KeepsOp, TakesCatalog}
+use Rattle.mn_work.specs.Works.{KeepsOp, MakesPlan, TakesCatalog}
 use Rattle.mn_work.specs.Works.{TakesCountBytes, TakesPageBytes, counts_of, retried_job}
 
 -- What is so of an operation
@@ -145,9 +145,26 @@ IsOutAs (steps.Call node request) work errand = HasOutIn (Some (work, errand)) n
 IsOutAs (steps.Done answer) work errand = ⊥
 IsOutAs step work errand = IsOutIn (Some (work, errand)) → ⊥
 
+-- a plan is just what its job asks for, by the kept catalog
+abbrev pub IsAsAsked : Known → Work → Purpose → Mini → Type 0
+IsAsAsked known w (by.Plan reply) mini = MakesPlan known w reply mini
+IsAsAsked known w purpose mini = ⊤
+
+-- what is issued is on its way from now on, as its purpose asks for it
+abbrev pub IssuesAsAsked : Known → ProxyStep → Work → Errand → Type 0
+IssuesAsAsked known (steps.Issue tid mini) w (out.Mini id c purpose) =
+    (c ≡ new_coordination tid mini) × IsAsAsked known w purpose mini
+IssuesAsAsked known (steps.Issue tid mini) w errand = ⊥
+IssuesAsAsked known step w errand = ⊤
+
+abbrev pub StepIsAsAsked : ProxyState → ProxyStep → Type 0
+StepIsAsAsked p step =
+    MatchOption p.work ⊤ (λ under. IssuesAsAsked p.known step under.0 under.1)
+
 abbrev pub IsSoundTurn : Known → Turn → Type 0
 IsSoundTurn known (turns.Goes step work errand) =
     IsSoundWork known work errand × IsSoundStep known.nodes step × IsOutAs step work errand
+    × IssuesAsAsked known step work errand
 IsSoundTurn known (turns.Ends answer) = ⊤
 IsSoundTurn known turns.Stops = ⊥
 

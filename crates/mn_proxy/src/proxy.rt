@@ -27,7 +27,7 @@ ghost use Rattle.mn_proxy.specs.LeafReads.{StepReadsLeaf};
 ghost use Rattle.mn_proxy.specs.State.{IsIdle, IsOut, IsOutIn, IsReady, begun, new_proxy};
 ghost use Rattle.mn_proxy.specs.Turns.{GivesUp, IsSoundTurn, IsSoundWork, KeepsSelf, LacksIn};
 ghost use Rattle.mn_proxy.specs.Turns.{IsSentWhole, IsSentWholeIn, LacksMemory, OwesNoDecide};
-ghost use Rattle.mn_proxy.specs.Turns.{Sends, TurnAgrees, with_work};
+ghost use Rattle.mn_proxy.specs.Turns.{Sends, StepIsAsAsked, TurnAgrees, with_work};
 ghost use Rattle.mn_proxy.specs.Turn.{turned};
 ghost use Rattle.mn_work.specs.Walks.{is_later};
 ghost use Rattle.mn_work.specs.Works.{new_work};
@@ -144,6 +144,10 @@ impl Proxy {
         ensures agrees { (es new : List Entry) → Agrees es self.old
             → IfOk result (λ step. Enters es self.old step new → Agrees new self.new) }
         ensures goes_on { IfOk result (λ step. Wants step self.new) }
+
+        // What is issued is on its way, and a plan is just what its try asks for: it writes the
+        // pages that its steps changed, and its new pages take the next slots by the counts.
+        ensures made { IfOk result (StepIsAsAsked self.new) }
 
         // Want of memory comes only while no minitransaction is under way. The operation may be
         // answered so, and none is under way.

@@ -45,12 +45,12 @@ use Rattle.mn_txn.specs.declared.seen.SeenPage.{SeenPage}
 use Rattle.mn_txn.specs.Seen.{seen_as, seen_at}
 use Rattle.mn_txn.specs.Attempt.{Attempt as Tried, IsAttempt, done_reads, done_writes, unmet_reads}
 use Rattle.mn_txn.specs.AttemptPlan.{DonePlanned, HasTried, IsDonePlan, IsUnmetPlan, MayBeDone, MayBeUnmet, RefusesDone}
-use Rattle.mn_txn.specs.AttemptPlan.{UnmetPlanned}
+use Rattle.mn_txn.specs.AttemptPlan.{UnmetPlanned, done_items, unmet_items}
 use Rattle.mn_txn.specs.Tries.{IsWornPage}
 use Rattle.mn_txn.specs.declared.error.PlanError.TheVariants.{Worn}
 use Rattle.mn_base.specs.declared.ids.NodeNo.{NodeNo}
 use Rattle.mn_work.specs.Attempts.{tried, HasAll, StaysOnItsWay, WantsNext}
-use Rattle.mn_work.specs.Answers.{worn_by}
+use Rattle.mn_work.specs.Answers.{full_by, worn_by}
 use Rattle.mn_work.specs.Knows.{ArePages}
 use Rattle.mn_base.specs.declared.answer.Answer.TheVariants as answer
 use Rattle.mn_txn.specs.Slots.{NewSlotsAreNext}
@@ -59,13 +59,13 @@ use Rattle.mn_txn.specs.declared.attempt.Tried.{Tried as Told}
 use Rattle.mn_work.specs.declared.attempt.Attempt.{Attempt}
 use Rattle.mn_work.specs.declared.known.Known.{Known}
 use Rattle.mn_work.specs.Attempts.{Asks, ComesIn, DoesSteps, HasCounts, HasUnmet, IsNextStep, IsOnItsWay, IsTold, IsUnderWay, IsUnmet}
-use Rattle.mn_work.specs.Attempts.{IsPlanWanted, IsReadAt, KeepsSteps, KeepsVersion, SameButFound, was_read}
+use Rattle.mn_work.specs.Attempts.{IsMadeOf, IsPlanWanted, IsReadAt, KeepsSteps, KeepsVersion, SameButFound, was_read}
 use Rattle.mn_work.proofs.Compares.{done_read, items_plan, of_items, of_reads, reads_plan, unmet_read}
 use Rattle.mn_base.specs.declared.answer.Busy.{Busy}
 use Rattle.mn_work.specs.declared.next.Next.{Next}
 use Rattle.mn_work.specs.declared.next.Taken.{Taken}
 use Rattle.mn_work.specs.Among.{FaultIsMet}
-use Rattle.mn_work.specs.Attempts.{HasCome, IsCause, IsFault, IsStuck, TakesBytes, TakesNone, TakesPage}
+use Rattle.mn_work.specs.Attempts.{HasCome, IsCause, IsFault, IsShort, IsStuck, IsUnfit, TakesBytes, TakesNone, TakesPage}
 use Rattle.mn_work.specs.Attempts.{MayFail, TakesRead, WantsBy}
 use Rattle.mn_work.specs.Seen.{SpellsNone}
 use Rattle.mn_work.specs.Knows.{KeepsKnown}
@@ -129,7 +129,7 @@ stays_on s step = by (walk s.parents s.version.0 s.draft.overlay.pages s.root (s
     by (Reached path) = record { parents = refl; version = refl; root = refl }
 
 -- a step that reaches its leaf asks for nothing
-no_need : (addr : Addr) (step : Step) (ps : List Pair) → told step ps ≡ steps.Need addr → ⊥
+pub no_need : (addr : Addr) (step : Step) (ps : List Pair) → told step ps ≡ steps.Need addr → ⊥
 no_need addr (Get key) ps e = absurd cc
 no_need addr (Put key value) ps e = absurd cc
 no_need addr (Del key) ps e = by (is_some (value_at ps key)) e
@@ -692,6 +692,19 @@ module _ (known : Known) (all : List Step) (a : Attempt) (entry : CatEntry) (r :
         let items = made (heads_in entries) t m.2 in
         let read = done_read entries a t way.came way.pages way.come.pages refl there (its_counts (heads_in entries) t m.2 refl) in
         record {
+          made = record {
+            tried = t;
+            is = subst (λ (n : ℕ). IsAttempt (heads_in entries) n t) told.0 m.2.tried.is;
+            version = refl;
+            entry = there;
+            steps = refl;
+            reply_is = refl;
+            came = way.pages ∙ ap (map seen_as) (sym way.come.pages);
+            made = (
+              (sym m.2.slots ∙ slots, its_counts (heads_in entries) t m.2 refl),
+              items ∙ ap (λ (n : ℕ). done_items n t) told.0,
+            );
+          };
           does = does_steps mini planned;
           compares = λ n start bytes has.
               of_items (IsReadAt entries a) (done_reads t) (done_writes t) read n start bytes (subst (λ (x : Mini). Contains x.items (Compare n start bytes)) items has);
@@ -746,7 +759,18 @@ module _ (nodes : ℕ) (entries : List CatEntry) (all : List Step) (a : Attempt)
       let t = its_try unmet.name in
       let items = made (heads_in entries) t (its_unmet unmet.name unmet.admits) in
       let read = unmet_read entries a t unmet.came unmet.pages unmet.ends.pages refl there in
+      let may = its_unmet unmet.name unmet.admits in
       record {
+        made = record {
+          tried = t;
+          is = subst (λ (n : ℕ). IsAttempt (heads_in entries) n t) told.0 may.tried.is;
+          version = refl;
+          entry = there;
+          steps = refl;
+          reply_is = refl;
+          came = unmet.pages ∙ ap (map seen_as) (sym unmet.ends.pages);
+          made = items ∙ ap (λ (n : ℕ). unmet_items n t) told.0;
+        };
         does = λ name es admits catalog last.
             planned (heads_in entries) (its_try name) (its_unmet name admits) es
             (unmet_last es entries (its_try name) a.pages.items unmet.came no_pages a.overlay.draft tree_is a.root unmet.pages unmet.ends.pages unmet.ends.leads unmet.early there (subst IsEntry entry_is unmet.entry) catalog last);
@@ -807,7 +831,7 @@ pub stuck_fails : (known : Known) (later : Bool) (all : List Step) (a : Attempt)
     (entries : List CatEntry) (cause : Option Busy) → IsNextStep all a step → known.catalog ≡ Some entries
     → IsStuck known.nodes all a → IsFault known later a (step_key step) cause
     → WantsBy known.nodes entries later all a (Next.Fails cause)
-stuck_fails known later all a step entries None next is stuck fault = λ l. inl stuck
+stuck_fails known later all a step entries None next is stuck fault = inl (inl stuck)
 stuck_fails known later all a step entries (Some busy) next is stuck fault =
     let c = cause_is known later all a step entries busy next is fault in (c.0, stuck, c.1)
 
@@ -880,19 +904,66 @@ stuck_may known later all a way stuck = λ step cause next fault.
     (λ es. WantsBy known.nodes es later all a (Next.Fails cause)) way
     (λ entries at its. stuck_fails known later all a step entries cause next at stuck fault)
 
--- a first try fails without a cause
+-- a first try fails by a kept page, without a cause
 untold : (known : Known) (entries : List CatEntry) (all : List Step) (a : Attempt) (key : List ℕ) (cause : Option Busy)
-    → IsFault known false a key cause → WantsBy known.nodes entries false all a (Next.Fails cause)
-untold known entries all a key None fault = λ later. absurd cc
-untold known entries all a key (Some busy) fault = let off = fault.0 in absurd cc
+    → IsUnfit all a → IsFault known false a key cause → WantsBy known.nodes entries false all a (Next.Fails cause)
+untold known entries all a key None unfit fault = inr (refl, inl unfit)
+untold known entries all a key (Some busy) unfit fault = let off = fault.0 in absurd cc
+
+pub is_unfit : (all : List Step) (before after : Attempt) (addr : Addr) (page : Page) → Asks all before addr
+    → KeepsSteps before after → ComesIn before addr page after false → IsUnfit all after
+is_unfit all before after addr page asks keeps comes = record {
+  step = asks.step;
+  next = subst (λ (n : ℕ). slice_get all n ≡ Some asks.step) (sym keeps.2) asks.next;
+  addr = addr;
+  need = subst (λ (s : TreeState). (stepped s asks.step).answer ≡ steps.Need addr) (sym (comes.3 refl)) asks.answer;
+  page = page;
+  unfit = subst (λ (s : TreeState). fits s page ≡ false) (sym (comes.3 refl)) comes.1;
+  older = before.pages.items;
+  leaf = nat_eq (height_of page.body) 0;
+  last = comes.0;
+}
+
+has_all : (known : Known) (all : List Step) (a : Attempt) (counts : List ℕ) (slots : List Addr)
+    → a.done ≡ length all → HasCounts known a counts slots → HasAll known.nodes all a
+has_all known all a counts slots done (inl (read, long, enough)) = (done, λ some. sym (ap length read) ∙ long)
+has_all known all a counts slots done (inr (none, zero_need)) = (done, λ some. absurd (omega (arith, zero_need)))
+
+-- a page was read at a slot that is free
+pub slot_fails : (known : Known) (all : List Step) (a : Attempt) (later : Bool) (counts : List ℕ) (slots : List Addr)
+    → IsOnItsWay known all a → a.done ≡ length all → HasCounts known a counts slots
+    → slots ≡ new_slots a.overlay.draft.overlay.fresh a.counts.items → was_read a.pages.items slots ≡ true
+    → WantsNext known later all a (Next.Fails None)
+slot_fails known all a later counts slots way done has are read =
+    with_catalog known.catalog (λ es. IsUnderWay known.nodes es all a)
+    (λ es. WantsBy known.nodes es later all a (Next.Fails None)) way
+    (λ entries at its. inl (inr (has_all known all a counts slots done has, subst (λ (l : List Addr). was_read a.pages.items l ≡ true) are read)))
+
+all_counted : (known : Known) (entries : List CatEntry) (all : List Step) (a : Attempt)
+    → IsUnderWay known.nodes entries all a → a.done ≡ length all → known.nodes ≤ length a.counts.items
+    → HasAll known.nodes all a
+all_counted known entries all a way done read = (done, λ some. (let few = way.few in omega arith))
+
+-- there are too few slots
+pub full_wants : (known : Known) (all : List Step) (a : Attempt) (later : Bool) (need free : ℕ)
+    → IsOnItsWay known all a → a.done ≡ length all → known.nodes ≤ length a.counts.items
+    → IsShort a need free → WantsNext known later all a (full_by later need free)
+full_wants known all a true need free way done read short =
+    with_catalog known.catalog (λ es. IsUnderWay known.nodes es all a)
+    (λ es. WantsBy known.nodes es true all a (Next.Answers (answer.Full need free))) way
+    (λ entries at its. (refl, all_counted known entries all a its done read, short))
+full_wants known all a false need free way done read short =
+    with_catalog known.catalog (λ es. IsUnderWay known.nodes es all a)
+    (λ es. WantsBy known.nodes es false all a (Next.Fails None)) way
+    (λ entries at its. inr (refl, inr (all_counted known entries all a its done read, (answer.Full need free, short))))
 
 pub unfit_may : (known new : Known) (all : List Step) (before a : Attempt) → KeepsKnown known new
-    → IsOnItsWay known all before → MayFail new false all a
-unfit_may known new all before a keeps way = λ step cause next fault.
+    → IsOnItsWay known all before → IsUnfit all a → MayFail new false all a
+unfit_may known new all before a keeps way unfit = λ step cause next fault.
     with_catalog new.catalog (λ es. IsUnderWay known.nodes es all before)
     (λ es. WantsBy new.nodes es false all a (Next.Fails cause))
     (subst (λ (o : Option (List CatEntry)). MatchOption o ⊥ (λ es. IsUnderWay known.nodes es all before)) (sym keeps.1) way)
-    (λ entries at its. untold new entries all a (step_key step) cause fault)
+    (λ entries at its. untold new entries all a (step_key step) cause unfit fault)
 
 -- it has asked for a page
 pub asks_for : (all : List Step) (before after : Attempt) (step : Step) (addr : Addr)
@@ -953,6 +1024,16 @@ pub wanted_kept : (nodes : ℕ) (entries : List CatEntry) (all : List Step) (a b
     (mini : Mini) → SameButFound a b → IsPlanWanted nodes entries all a reply mini
     → IsPlanWanted nodes entries all b reply mini
 wanted_kept nodes entries all a b reply mini same wanted = record {
+  made = record {
+    tried = wanted.made.tried;
+    is = wanted.made.is;
+    version = wanted.made.version ∙ sym same.0.0;
+    entry = subst (λ (v : VersionNo). slice_get entries v.0 ≡ Some wanted.made.tried.entry) (sym same.0.0) wanted.made.entry;
+    steps = wanted.made.steps;
+    reply_is = wanted.made.reply_is;
+    came = ap (λ (v : Vec SeenPage Global). v.items) same.2 ∙ wanted.made.came;
+    made = made_kept reply wanted.made.made;
+  };
   does = λ name es admits catalog last.
       wanted.does name es (admits_after entries (Tx name all) b a (sym same.0.0, sym same.0.1) admits) catalog
       (subst (λ (v : Vec SeenPage Global). PagesAreLast es v.items) same.2 last);
@@ -961,6 +1042,12 @@ wanted_kept nodes entries all a b reply mini same wanted = record {
   plan = wanted.plan;
 }
   where
+    made_kept : (r : Reply) → IsMadeOf nodes a wanted.made.tried r mini → IsMadeOf nodes b wanted.made.tried r mini
+    made_kept (Values found) made =
+        (subst (λ (v : Vec ℕ Global). (wanted.made.tried.slots ≡ new_slots wanted.made.tried.draft.overlay.fresh v.items) × ((wanted.made.tried.counts ≡ v.items) ⊎ (wanted.made.tried.slots ≡ []))) (sym same.3) made.0, made.1)
+    made_kept (Unmet step found) made = made
+    made_kept other made = absurd made
+
     on : (n : NodeNo) (start : ℕ) (bytes : List ℕ) → IsReadAt entries a n start bytes
         → IsReadAt entries b n start bytes
     on n start bytes (inl read) =
@@ -992,11 +1079,6 @@ pub worn_way : (known : Known) (all : List Step) (a : Attempt) (later : Bool) (n
 worn_way known all a true node start way = way
 worn_way known all a false node start way = tt
 
-has_all : (known : Known) (all : List Step) (a : Attempt) (counts : List ℕ) (slots : List Addr)
-    → a.done ≡ length all → HasCounts known a counts slots → HasAll known.nodes all a
-has_all known all a counts slots done (inl (read, long, enough)) = (done, λ some. sym (ap length read) ∙ long)
-has_all known all a counts slots done (inr (none, zero_need)) = (done, λ some. absurd (omega (arith, zero_need)))
-
 enough_slots : (known : Known) (a : Attempt) (counts : List ℕ) (slots : List Addr)
     → HasCounts known a counts slots → 1 ≤ a.overlay.draft.overlay.fresh
     → a.overlay.draft.overlay.fresh ≤ free_slots a.counts.items
@@ -1014,7 +1096,7 @@ worn_wants known all a counts slots true node start kept at way done has worn =
     (refl, has_all known all a counts slots done has, (enough_slots known a counts slots has, worn))
 worn_wants known all a counts slots false node start kept at way done has worn =
     to_kept known.catalog kept (λ es. WantsBy known.nodes es false all a (Next.Fails None)) at
-    (λ l. absurd cc)
+    (inr (refl, inr (has_all known all a counts slots done has, (answer.Worn node start, (enough_slots known a counts slots has, worn)))))
 
 -- Runs of steps
 

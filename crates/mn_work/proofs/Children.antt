@@ -1,5 +1,5 @@
 -- How a Snapshot or a Branch goes on.
-use Rattle.std.proofs.Common.{◌≡◌, ◌<◌, ◌≤◌, ℕ, suc, Bool, true, false, not, ◌&&◌, ◌||◌, List, [], ◌∷◌, length, reverse, Option, Some, None, Vec, Global, refl, subst, sym, ap, ◌∙◌, arith}
+use Rattle.std.proofs.Common.{◌≡◌, ◌<◌, ◌≤◌, inl, inr, ℕ, suc, Bool, true, false, not, ◌&&◌, ◌||◌, List, [], ◌∷◌, length, reverse, Option, Some, None, Vec, Global, refl, subst, sym, ap, ◌∙◌, arith}
 use Rattle.std.specs.Prelude.{⊤, MatchOption, nat_eq, if◌then◌else◌}
 use Rattle.std.proofs.lemmas.Bool.Decides.{nat_tests}
 use Rattle.std.specs.List.{AllByRecursion}
@@ -9,7 +9,12 @@ use Rattle.std.specs.Option.{option_map_or}
 use Rattle.mn_base.specs.Store.{Head, op_version}
 use Rattle.mn_base.specs.Tree.{has_version, is_above, is_ancestor, parents_of}
 use Rattle.mn_base.specs.declared.ids.Addr.{Addr}
+use Rattle.mn_base.specs.declared.ids.NodeNo.{NodeNo}
 use Rattle.mn_base.specs.declared.ids.VersionNo.{VersionNo}
+use Rattle.mn_base.specs.declared.answer.Answer.TheVariants as answer
+use Rattle.mn_base.specs.Ids.{addr_same}
+use Rattle.mn_alloc.specs.Plan.{free_slots, next_slot}
+use Rattle.mn_plans.proofs.Grown.{addr_is}
 use Rattle.mn_base.specs.declared.op.Op.{Op}
 use Rattle.mn_base.specs.declared.op.Op.TheVariants.{Tx, Snapshot, Branch, Scan, Versions}
 use Rattle.mn_base.proofs.Booleans.{both_parts, not_true}
@@ -26,11 +31,13 @@ use Rattle.mn_work.specs.declared.next.Next.{Next}
 use Rattle.mn_work.specs.declared.next.Next.TheVariants.{Answers, Catalog, Count, Fails as Fails', Page as Page', Plan}
 use Rattle.mn_work.specs.declared.next.Taken.{Taken}
 use Rattle.mn_work.specs.declared.next.Taken.TheVariants.{GoesOn, Leaf, Replies, Fails}
-use Rattle.mn_work.specs.Children.{IsOnItsWay, IsUnderWay, KeepsTry, MayPlan, TakesRoot, UnlessFails, WantsPage, WantsRoot, failing, may_copy, may_copy_by}
+use Rattle.mn_work.specs.Children.{EndsBy, IsOnItsWay, IsUnderWay, IsWornFor, KeepsTry, MayPlan, TakesRoot, UnlessFails, WantsEnd, WantsPage, WantsRoot, failing, may_copy, may_copy_by}
 use Rattle.mn_cache.specs.Pages.{page_at}
 use Rattle.mn_work.specs.Children.{StaysLast}
 use Rattle.mn_work.specs.Last.{RootIsLast}
 use Rattle.mn_work.specs.Walks.{Admits}
+use Rattle.mn_work.specs.Answers.{full_by, worn_by}
+use Rattle.mn_work.proofs.Attempts.{with_catalog}
 use Rattle.mn_work.proofs.Last.{found_last}
 
 -- a kept root page is taken, or makes the try fail
@@ -214,3 +221,39 @@ root_last pages catalog before after page taken at keeps takes es cached last = 
     by (Replies reply) root = absurd root
     by (Fails None) root = absurd root
     by (Fails (Some cause)) root = moved before.page root.2 last
+
+-- Where a first try fails
+
+-- the root was read at the slot that the counts have free
+pub slot_fails : (known : Known) (later : Bool) (op : Op) (c : Child) (entries : List CatEntry) (slot : Addr)
+    (same : Bool) → known.catalog ≡ Some entries → slot ≡ next_slot c.counts.items
+    → same ≡ addr_same slot c.root → same ≡ true → WantsEnd known later op c (Fails' None)
+slot_fails known later op c entries slot same kept is at on =
+    subst (λ (o : Option (List CatEntry)). MatchOption o ⊥ (λ es. EndsBy known.nodes es later op c (Fails' None))) (sym kept)
+    (inl (sym is ∙ addr_is slot c.root (sym at ∙ on)))
+
+-- what is to be written is worn
+pub worn_ends : (known : Known) (later : Bool) (op : Op) (c : Child) (entries : List CatEntry) (root : Page)
+    (node : NodeNo) (start : ℕ) → known.catalog ≡ Some entries → length c.counts.items ≡ known.nodes
+    → c.page ≡ Some root → IsWornFor entries op root node start
+    → WantsEnd known later op c (worn_by later node start)
+worn_ends known true op c entries root node start kept all page worn =
+    subst (λ (o : Option (List CatEntry)). MatchOption o ⊥ (λ es. EndsBy known.nodes es true op c (Answers (answer.Worn node start)))) (sym kept)
+    (refl, all, (root, page, worn))
+worn_ends known false op c entries root node start kept all page worn =
+    subst (λ (o : Option (List CatEntry)). MatchOption o ⊥ (λ es. EndsBy known.nodes es false op c (Fails' None))) (sym kept)
+    (inr (refl, (answer.Worn node start, (root, page, worn))))
+
+-- there is no slot left
+pub full_ends : (known : Known) (later : Bool) (op : Op) (c : Child) (need free : ℕ) → IsOnItsWay known op c
+    → length c.counts.items ≡ known.nodes
+    → (need ≡ 1) × (free ≡ free_slots c.counts.items) × (free < need)
+    → WantsEnd known later op c (full_by later need free)
+full_ends known true op c need free way all few =
+    with_catalog known.catalog (λ es. IsUnderWay known.nodes es op c)
+    (λ es. EndsBy known.nodes es true op c (Answers (answer.Full need free))) way
+    (λ entries at its. (refl, all, few))
+full_ends known false op c need free way all few =
+    with_catalog known.catalog (λ es. IsUnderWay known.nodes es op c)
+    (λ es. EndsBy known.nodes es false op c (Fails' None)) way
+    (λ entries at its. inr (refl, (answer.Full need free, few)))

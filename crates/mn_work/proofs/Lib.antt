@@ -8,9 +8,12 @@ pub mod Descents
 pub mod Getting
 pub mod Last
 pub mod Lasting
+pub mod Levels
+pub mod Lower
 pub mod Paths
 pub mod Planned
 pub mod Scans
+pub mod Values
 pub mod Versions
 pub mod Walks
 pub mod Works

@@ -44,7 +44,7 @@ use Rattle.mn_work.specs.declared.work.Job.{Job}
 use Rattle.mn_work.specs.declared.work.Job.TheVariants as at
 use Rattle.mn_work.specs.declared.work.Started.{Started}
 use Rattle.mn_work.specs.declared.work.Work.{Work}
-use Rattle.mn_work.specs.Works.{BeginsSteps, HasBegun, IsReadAs, IsReadIfOn, IsScan, JobIsLast, StaysLast}
+use Rattle.mn_work.specs.Works.{BeginsSteps, HasBegun, IsPlanOfJob, IsReadAs, IsReadIfOn, IsScan, JobIsLast, MakesPlan, StaysLast}
 use Rattle.mn_work.specs.Last.{PagesAreLast, RootIsLast}
 use Rattle.mn_runs.specs.declared.entry.Entry.{Entry}
 use Rattle.mn_base.specs.declared.error.NoMemory.{NoMemory}
@@ -474,6 +474,40 @@ plan_begun known later op (at.Scan s) (at.Scan t) mini reply w = absurd w.wants
 plan_begun known later op (at.Scan s) at.Start mini reply w = let e = w.1.replies in absurd cc
 plan_begun known later op before after mini reply w = absurd w
 
+-- the plan is just what its job asks for
+plan_made : (known : Known) (later : Bool) (op : Op) (before after : Job) (mini : Mini)
+    (reply : Reply) → JobWants known later op before after (Next.Plan mini reply)
+    → MatchOption known.catalog ⊥ (λ entries. IsPlanOfJob known.nodes entries op after reply mini)
+plan_made known later op (at.Get d) (at.Get e) mini reply w = absurd w.wants
+plan_made known later (Tx name steps) (at.Transaction a) (at.Transaction b) mini reply w =
+    made known.catalog w.wants
+  where
+    made : (o : Option (List CatEntry))
+        → MatchOption o ⊥ (λ entries. attempts.IsPlanWanted known.nodes entries steps b reply mini)
+        → MatchOption o ⊥ (λ entries. attempts.IsPlanMade known.nodes entries steps b reply mini)
+    made None wants = absurd wants
+    made (Some entries) wants = wants.made
+plan_made known later op (at.Child c) (at.Child d) mini reply w = by w.wants
+  where
+    by : children.WantsPage known later d (Next.Plan mini reply) ⊎ children.WantsCount known later d (Next.Plan mini reply) ⊎ children.WantsEnd known later op d (Next.Plan mini reply)
+        → MatchOption known.catalog ⊥ (λ entries. IsPlanOfJob known.nodes entries op (at.Child d) reply mini)
+    by (inl page) = absurd page
+    by (inr (inl count)) = absurd count
+    by (inr (inr end)) = ended op known.catalog end
+      where
+        ended : (x : Op) (o : Option (List CatEntry))
+            → MatchOption o ⊥ (λ entries. children.EndsBy known.nodes entries later x d (Next.Plan mini reply))
+            → MatchOption o ⊥ (λ entries. IsPlanOfJob known.nodes entries x (at.Child d) reply mini)
+        ended x None end = absurd end
+        ended (Tx name steps) (Some entries) end = end
+        ended (Snapshot name child) (Some entries) end = end
+        ended (Branch name child) (Some entries) end = end
+        ended (Scan name low high limit) (Some entries) end = end
+        ended Versions (Some entries) end = end
+plan_made known later op (at.Scan s) (at.Scan t) mini reply w = absurd w.wants
+plan_made known later op (at.Scan s) at.Start mini reply w = let e = w.1.replies in absurd cc
+plan_made known later op before after mini reply w = absurd w
+
 -- What the caller has to know of it
 
 module _ (known new : Known) (before after : Work) (keeps : KeepsKnown known new)
@@ -528,6 +562,17 @@ module _ (known new : Known) (before after : Work) (keeps : KeepsKnown known new
         plan_begun new (is_later on.begun.failed) on.begun.op on.begun.job after.job mini reply on.goes.1,
         on.kept,
       )
+
+  -- which is just what its job asks for
+  pub plan_made_by : (mini : Mini) (reply : Reply) → WantsNext new before after (Next.Plan mini reply)
+      → MakesPlan new after reply mini
+  plan_made_by mini reply wants = by (asks_or_goes known new before after (Next.Plan mini reply) keeps is wants)
+    where
+      by : AsksOrGoes new before after (Next.Plan mini reply) → MakesPlan new after reply mini
+      by (inl asks) = let e = asks.0 in absurd cc
+      by (inr on) =
+          subst (λ (o : Op). MatchOption new.catalog ⊥ (λ entries. IsPlanOfJob new.nodes entries o after.job reply mini)) (on.keeps.0 ∙ sym op.0)
+          (plan_made new (is_later on.begun.failed) on.begun.op on.begun.job after.job mini reply on.goes.1)
 
 -- What came in
 

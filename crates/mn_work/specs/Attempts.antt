@@ -17,7 +17,7 @@ use Rattle.mn_base.specs.declared.answer.Busy.{Busy}
 use Rattle.mn_base.specs.declared.op.Op.TheVariants.{Tx}
 use Rattle.mn_base.specs.declared.op.Step.{Step}
 use Rattle.mn_base.specs.declared.reply.Reply.{Reply}
-use Rattle.mn_base.specs.declared.reply.Reply.TheVariants.{Values}
+use Rattle.mn_base.specs.declared.reply.Reply.TheVariants.{Values, Unmet}
 use Rattle.mn_mini.specs.declared.item.Item.TheVariants.{Compare}
 use Rattle.mn_mini.specs.Mini.{Mini}
 use Rattle.mn_page.specs.declared.page.Page.{Page}
@@ -29,14 +29,15 @@ use Rattle.mn_page.specs.Space.{count_size, count_start, entry_start, max_slots,
 use Rattle.mn_tree.specs.State.{IsWanted, TreeState, fits, new_state, stepped, with_page}
 use Rattle.mn_tree.specs.declared.stepped.Stepped.{Stepped}
 use Rattle.mn_tree.specs.MoveLaws.{IsStep}
-use Rattle.mn_tree.specs.Moves.{Move}
+use Rattle.mn_tree.specs.Moves.{Move, comes_in}
 use Rattle.mn_tree.specs.Tries.{ComeTo, EndsUnmet}
 use Rattle.mn_tree.specs.declared.stepped.Stepped.TheVariants as steps
 use Rattle.mn_runs.specs.declared.entry.Entry.{Entry}
 use Rattle.mn_runs.specs.Clients.{is_plan}
 use Rattle.mn_law.specs.Places.{number_size}
 use Rattle.mn_law.specs.Planned.{IsPlanned}
-use Rattle.mn_txn.specs.Attempt.{Attempt as Tried}
+use Rattle.mn_txn.specs.Attempt.{Attempt as Tried, IsAttempt}
+use Rattle.mn_txn.specs.AttemptPlan.{done_items, unmet_items}
 use Rattle.mn_txn.specs.Tries.{IsWornPage}
 use Rattle.mn_txn.specs.declared.attempt.Tried.{Tried as Told}
 use Rattle.mn_txn.specs.declared.seen.SeenPage.{SeenPage}
@@ -166,9 +167,22 @@ abbrev pub IsReadSlot : Attempt → Type 0
 IsReadSlot a =
     was_read a.pages.items (new_slots a.overlay.draft.overlay.fresh a.counts.items) ≡ true
 
--- why a later try fails without a cause
+-- why a try fails without a cause
 abbrev pub FailsUntold : ℕ → List Step → Attempt → Type 0
 FailsUntold nodes all a = IsStuck nodes all a ⊎ (HasAll nodes all a × IsReadSlot a)
+
+-- the last page that came in was kept, for its next step, which can't go on at it
+pub record IsUnfit (all : List Step) (a : Attempt) : Type 0 where
+  pub step : Step
+  pub next : IsNextStep all a step
+  pub addr : Addr
+  pub need : (stepped a.overlay step).answer ≡ steps.Need addr
+  pub page : Page
+  pub unfit : fits a.overlay page ≡ false
+  pub older : List SeenPage
+  pub leaf : Bool
+  pub last : a.pages.items
+      ≡ older ++ record { addr = addr; bytes = page_bytes page; leaf = leaf } ∷ []
 
 -- the plan does what the transaction does with this reply, by whatever name the catalog has its
 -- version, for a client whose list has shown last the catalog and the pages that came in
@@ -212,9 +226,35 @@ ComparesRead entries a mini =
     (n : NodeNo) (start : ℕ) (bytes : List ℕ) → Contains mini.items (Compare n start bytes)
     → IsReadAt entries a n start bytes
 
+-- its new pages take the next slots by the counts that it read, and by those alone
+abbrev pub TakesSlots : Attempt → Tried → Type 0
+TakesSlots a t =
+    (t.slots ≡ new_slots t.draft.overlay.fresh a.counts.items)
+    × ((t.counts ≡ a.counts.items) ⊎ (t.slots ≡ []))
+
+-- where its Checks are met it compares all that the steps went by, and writes the pages that they
+-- changed; where one is unmet it compares leaves, and writes nothing
+abbrev pub IsMadeOf : ℕ → Attempt → Tried → Reply → Mini → Type 0
+IsMadeOf nodes a t (Values found) mini = TakesSlots a t × (mini ≡ done_items nodes t)
+IsMadeOf nodes a t (Unmet step found) mini = mini ≡ unmet_items nodes t
+IsMadeOf nodes a t other mini = ⊥
+
+-- the plan is just what its steps, made on the pages that came in and on no others, ask for
+pub record IsPlanMade (nodes : ℕ) (entries : List CatEntry) (all : List Step) (a : Attempt)
+    (reply : Reply) (mini : Mini) : Type 0 where
+  pub tried : Tried
+  pub is : IsAttempt (heads_in entries) nodes tried
+  pub version : tried.version ≡ a.version
+  pub entry : slice_get entries a.version.0 ≡ Some tried.entry
+  pub steps : tried.steps ≡ all
+  pub reply_is : tried.reply ≡ reply
+  pub came : a.pages.items ≡ map seen_as (comes_in tried.moves)
+  pub made : IsMadeOf nodes a tried reply mini
+
 -- the plan that it wants: over all nodes, of compares and writes alone
 pub record IsPlanWanted (nodes : ℕ) (entries : List CatEntry) (all : List Step) (a : Attempt)
     (reply : Reply) (mini : Mini) : Type 0 where
+  pub made : IsPlanMade nodes entries all a reply mini
   pub does : DoesSteps entries all a reply mini
   pub compares : ComparesRead entries a mini
   pub nodes_are : mini.nodes ≡ nodes
@@ -229,6 +269,12 @@ IsAnsweredAs nodes entries all a (answer.Worn node start) =
     × IsWorn nodes entries all a node start
 IsAnsweredAs nodes entries all a other = ⊥
 
+-- why only a first try fails: it goes by kept pages, and fails where a later one is answered
+abbrev pub FailsFirst : ℕ → List CatEntry → List Step → Attempt → Type 0
+FailsFirst nodes entries all a =
+    IsUnfit all a
+    ⊎ (HasAll nodes all a × ((answer : Answer) × IsAnsweredAs nodes entries all a answer))
+
 -- what it wants next, by these entries
 abbrev pub WantsBy : ℕ → List CatEntry → Bool → List Step → Attempt → Next → Type 0
 WantsBy nodes entries later all a (Next.Page addr peek) =
@@ -242,7 +288,8 @@ WantsBy nodes entries later all a (Next.Answers answer) =
     (later ≡ true) × HasAll nodes all a × IsAnsweredAs nodes entries all a answer
 WantsBy nodes entries later all a (Next.Fails (Some cause)) =
     (later ≡ true) × IsStuck nodes all a × IsCause nodes entries all a cause
-WantsBy nodes entries later all a (Next.Fails None) = later ≡ true → FailsUntold nodes all a
+WantsBy nodes entries later all a (Next.Fails None) =
+    FailsUntold nodes all a ⊎ ((later ≡ false) × FailsFirst nodes entries all a)
 WantsBy nodes entries later all a Next.Catalog = ⊥
 
 abbrev pub WantsNext : Known → Bool → List Step → Attempt → Next → Type 0
@@ -277,6 +324,13 @@ ReachesOn known later all addr a reached.Came = (later ≡ false) × IsOnItsWay 
 ReachesOn known later all addr a reached.Needed =
     WantsNext known later all a (Next.Page addr (not later)) × IsOnItsWay known all a
 ReachesOn known later all addr a reached.Unfit = MayFail known later all a
+
+-- where a page came in, it was an inner one, at which the step goes on
+abbrev pub ComesInner : Addr → Attempt → Attempt → Reached → Type 0
+ComesInner addr before after reached.Came =
+    (page : Page) × (1 ≤ height_of page.body) × (fits before.overlay page ≡ true)
+    × (after.overlay ≡ with_page before.overlay addr page)
+ComesInner addr before after other = ⊤
 
 -- the same try over another state of its tree
 abbrev pub with_overlay : Attempt → TreeState → Attempt
@@ -345,6 +399,7 @@ ComesIn before addr page after goes =
     HasCome before addr (page_bytes page) (nat_eq (height_of page.body) 0) after
     × (fits before.overlay page ≡ goes)
     × (goes ≡ true → after.overlay ≡ with_page before.overlay addr page)
+    × (goes ≡ false → after.overlay ≡ before.overlay)
 
 -- only its pages may differ
 abbrev pub KeepsSteps : Attempt → Attempt → Type 0

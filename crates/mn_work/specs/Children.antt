@@ -162,13 +162,16 @@ IsAnsweredAs entries op c (answer.Worn node start) =
     (root : Page) × (c.page ≡ Some root) × IsWornFor entries op root node start
 IsAnsweredAs entries op c other = ⊥
 
--- how it ends where all is read
+-- how it ends where all is read. It fails where the root was read at a slot that the counts have
+-- free, as no run has it; and in a first try where a later one is answered
 abbrev pub EndsBy : ℕ → List CatEntry → Bool → Op → Child → Next → Type 0
 EndsBy nodes entries later op c (Next.Plan mini reply) =
     (reply ≡ Made) × IsWanted nodes entries op c mini
 EndsBy nodes entries later op c (Next.Answers answer) =
     (later ≡ true) × (length c.counts.items ≡ nodes) × IsAnsweredAs entries op c answer
-EndsBy nodes entries later op c (Next.Fails None) = ⊤
+EndsBy nodes entries later op c (Next.Fails None) =
+    (next_slot c.counts.items ≡ c.root)
+    ⊎ ((later ≡ false) × ((answer : Answer) × IsAnsweredAs entries op c answer))
 EndsBy nodes entries later op c next = ⊥
 
 abbrev pub WantsEnd : Known → Bool → Op → Child → Next → Type 0

@@ -13,7 +13,9 @@ use Rattle.mn_base.specs.declared.op.Step.{Step}
 use Rattle.mn_base.specs.declared.op.Step.TheVariants.{Get}
 use Rattle.mn_base.specs.declared.answer.Answer.TheVariants as answer
 use Rattle.mn_base.specs.declared.answer.Busy.TheVariants.{Path}
-use Rattle.mn_base.specs.declared.reply.Reply.TheVariants.{Listing, Pairs}
+use Rattle.mn_base.specs.declared.reply.Reply.{Reply}
+use Rattle.mn_base.specs.declared.reply.Reply.TheVariants.{Listing, Made, Pairs}
+use Rattle.mn_mini.specs.Mini.{Mini}
 use Rattle.mn_page.specs.declared.entry.CatEntry.{CatEntry}
 use Rattle.mn_page.specs.Forest.{heads_in}
 use Rattle.mn_page.specs.declared.page.Page.{Page}
@@ -242,6 +244,20 @@ JobWants known later op (at.Scan s) (at.Scan t) next = ScanWants known.nodes lat
 JobWants known later op (at.Scan s) at.Start next =
     (t : ScanState) × ScanEnds known.nodes later s t next
 JobWants known later op before after next = ⊥
+
+-- a plan is just what its job asks for, by this catalog
+abbrev pub IsPlanOfJob : ℕ → List CatEntry → Op → Job → Reply → Mini → Type 0
+IsPlanOfJob nodes entries (Tx name steps) (at.Transaction a) reply mini =
+    attempts.IsPlanMade nodes entries steps a reply mini
+IsPlanOfJob nodes entries op (at.Child c) reply mini =
+    (reply ≡ Made) × children.IsWanted nodes entries op c mini
+IsPlanOfJob nodes entries op job reply mini = ⊥
+
+-- by the kept one
+abbrev pub MakesPlan : Known → Work → Reply → Mini → Type 0
+MakesPlan known w reply mini =
+    MatchOption known.catalog ⊥
+    (λ entries. IsPlanOfJob known.nodes entries w.op w.job reply mini)
 
 abbrev pub GoesOnBy : Known → Work → Work → Next → Type 0
 GoesOnBy known before after next =

@@ -7,7 +7,8 @@ ghost use Rattle.mn_base.specs.declared.reply.Reply.TheVariants.{Values};
 ghost use Rattle.mn_page.specs.Grammar.{IsPage, page_bytes};
 ghost use Rattle.mn_tree.specs.State.{IsWanted};
 ghost use Rattle.mn_tree.specs.Tries.{MovesTakePages, NeedsAreSlots, NeedsMayCome};
-ghost use Rattle.mn_work.specs.Attempts.{Asks, CameBySteps, ComesIn, CountsOn, HasCounts};
+ghost use Rattle.mn_work.specs.Attempts.{Asks, CameBySteps, ComesIn, ComesInner, CountsOn};
+ghost use Rattle.mn_work.specs.Attempts.{HasCounts};
 ghost use Rattle.mn_work.specs.Attempts.{HasStepped, HasUnmet, IsBegun, IsFailure, IsFault};
 ghost use Rattle.mn_work.specs.Attempts.{IsOnItsWay, IsTold, KeepsSteps, KeepsVersion, MayFail};
 ghost use Rattle.mn_work.specs.Attempts.{NamesNoPage, NeedsNone, ReachesOn, RunsFurther, RunsOn};
@@ -197,7 +198,7 @@ impl Attempt {
     }
 
     /// Does the next step, as far as its pages are there. None: it is done. A path has at most
-    /// `LEVELS` pages.
+    /// `LEVELS` pages, and its leaf is never kept, so the step asks for a page before the last one.
     fn run_step(
         &mut self,
         alloc: Global,
@@ -231,7 +232,7 @@ impl Attempt {
                 Reached::Unfit => return Ok(Some(self.fails(known, steps, later))),
             }
         }
-        Ok(Some(Next::Fails { cause: None }))
+        unreachable!()
     }
 
     /// Takes the answer of the next step, whose pages are there.
@@ -307,6 +308,7 @@ impl Attempt {
         ensures later { later ≡ true → self.new.pages ≡ self.old.pages }
         ensures last { OnOk result (StaysLast known.old.cache self.old self.new) }
         ensures done { self.new.done ≡ self.old.done }
+        ensures inner { IfOk result (ComesInner addr self.old self.new) }
         ensures reached { IfOk result (ReachesOn known.new later steps.now addr self.new) }
     {
         if !known.has_node(addr) {
@@ -337,6 +339,7 @@ impl Attempt {
         ensures counts { self.new.counts ≡ self.old.counts }
         ensures last { OnOk result (StaysLast known.old.cache self.old self.new) }
         ensures done { self.new.done ≡ self.old.done }
+        ensures inner { IfOk result (ComesInner addr self.old self.new) }
         ensures reached { IfOk result (ReachesOn known.new false steps.now addr self.new) }
     {
         pages_are_known();

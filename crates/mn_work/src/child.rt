@@ -13,10 +13,10 @@ ghost use Rattle.mn_work.specs.Knows.{ArePages, KeepsKnown};
 
 use crate::counts::take_count;
 use crate::known::Known;
-use crate::next::{Next, Taken, fault_at, full};
+use crate::next::{Next, Taken, fault_at, full, worn};
 use crate::seen::page_in;
 use mn_alloc::{AllocError, plan_slots};
-use mn_base::{Addr, Answer, Counts, NoMemory, NodeNo, Op, Reply, TryCopy, VersionNo};
+use mn_base::{Addr, Counts, NoMemory, NodeNo, Op, Reply, TryCopy, VersionNo};
 use mn_catalog::Catalog;
 use mn_mini::{Minitransaction, SharedBytes};
 use mn_page::{Page, SharedPage};
@@ -312,10 +312,7 @@ impl Child {
                 mini,
                 reply: Reply::Made,
             }),
-            Err(PlanError::Worn { node, start }) if later => Ok(Next::Answers {
-                answer: Answer::Worn { node, start },
-            }),
-            Err(PlanError::Worn { .. }) => Ok(Next::Fails { cause: None }),
+            Err(PlanError::Worn { node, start }) => Ok(worn(node, start, later)),
             Err(PlanError::NoMemory) => Err(NoMemory),
         }
     }

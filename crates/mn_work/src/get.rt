@@ -1,4 +1,7 @@
 ghost use Rattle.std.specs.Prelude.{◌≡◌, ◌≢◌, ◌<◌, ◌≤◌, false, true, IfOk, OnErr, OnOk, None, Some};
+ghost use Rattle.std.specs.Prelude.{length};
+ghost use Rattle.mn_base.specs.declared.error.BaseError.TheVariants as refusals;
+ghost use Rattle.mn_base.specs.declared.value.TheConstants.{MAX_VALUE};
 ghost use Rattle.mn_page.specs.Grammar.{IsPage, height_of, page_bytes};
 ghost use Rattle.mn_work.specs.Cached.{AreUsed, Puts, Walks, with_inner};
 ghost use Rattle.mn_work.specs.Descents.{FailsOff, DescentGoesOn, TakesPageBy, WantsPage};
@@ -13,7 +16,7 @@ use crate::causes::LEVELS;
 use crate::known::Known;
 use crate::next::{Next, Taken, fault_at};
 use crate::seen::is_leaf;
-use mn_base::{Addr, Founds, Key, NoMemory, Reply, TryCopy, Value, VersionNo};
+use mn_base::{Addr, BaseError, Founds, Key, NoMemory, Reply, TryCopy, Value, VersionNo};
 use mn_cache::Spelled;
 use mn_mini::SharedBytes;
 use mn_page::{Body, Page, PageRef, SharedPage};
@@ -42,12 +45,23 @@ enum Passed {
     Fault { seq: u64 },
 }
 
+/// The answer where bytes that are no longer than a value may be make none.
+fn want(error: BaseError) -> NoMemory
+    requires { error ≡ refusals.NoMemory }
+{
+    let _only = error;
+    NoMemory
+}
+
+/// The value of these bytes, which are no longer than one may be. NoMemory: there was no memory for
+/// it.
 fn value_of(alloc: Global, bytes: &[u8]) -> Result<Value, NoMemory>
+    requires { length bytes.now ≤ MAX_VALUE }
     ensures { IfOk result (λ value. value ≡ bytes.now) }
 {
     match Value::new(alloc, bytes) {
         Ok(value) => Ok(value),
-        Err(_) => Err(NoMemory),
+        Err(error) => Err(want(error)),
     }
 }
 

@@ -19,8 +19,8 @@ ghost use Rattle.mn_work.specs.Paths.{HasCurrentPath, WantsLeaf};
 ghost use Rattle.mn_proxy.specs.LeafReads.{ReadsLeaf};
 ghost use Rattle.mn_work.specs.Places.{place_of};
 ghost use Rattle.mn_proxy.specs.Tries.{max_tries};
-ghost use Rattle.mn_proxy.specs.Turns.{IsReadFor, IsSoundTurn, KeepsSelf, MayIssue, TurnAgrees};
-ghost use Rattle.mn_proxy.specs.Turns.{WaitsFor, read_mini, with_known};
+ghost use Rattle.mn_proxy.specs.Turns.{IsAsAsked, IsReadFor, IsSoundTurn, KeepsSelf, MayIssue};
+ghost use Rattle.mn_proxy.specs.Turns.{TurnAgrees, WaitsFor, read_mini, with_known};
 ghost use Rattle.mn_proxy.specs.Turn.{turned};
 ghost use Rattle.mn_work.specs.Walks.{is_later};
 ghost use Rattle.mn_work.specs.Works.{IsJobOf, IsStartable, IsToAsk, KeepsOp, StaysLast};
@@ -269,6 +269,7 @@ impl Proxy {
         requires idle { self.old.work ≡ None }
         requires few { work.failed < max_tries }
         requires waits { WaitsFor self.old.known work purpose }
+        requires asked { IsAsAsked self.old.known work purpose mini }
         requires nodes { mini.nodes ≡ self.old.known.nodes }
         ensures sound { IfOk (turned self.new.work result) (IsSoundTurn self.new.known) }
         ensures turns { (es : List Entry) → IsOwn es self.old

@@ -11,7 +11,7 @@ use Rattle.mn_work.specs.Works.{WantsNext}
 use Rattle.mn_runs.specs.Seen.{Place as Range}
 use Rattle.mn_proxy.proofs.Wanting.{answers_so, asks_catalog, asks_count, asks_page, counts_place}
 use Rattle.mn_proxy.proofs.Wanting.{answers_self, has_failed, kept_idle, kept_self, makes_plan, own_self, own_self_last}
-use Rattle.mn_work.proofs.Works.{catalog_asked, count_asked, page_asked, plan_asked, retry_after_wants, starts_right}
+use Rattle.mn_work.proofs.Works.{catalog_asked, count_asked, page_asked, plan_asked, plan_made_by, retry_after_wants, starts_right}
 use Rattle.mn_proxy.specs.Measure.{GoesBelow, left_after}
 use Rattle.mn_proxy.proofs.Measure.{known_goes}
 use Rattle.std.proofs.Common.{None, Some, refl, ◌∙◌}
@@ -353,6 +353,13 @@ returns-in-Plan-clause-left_catalog c =
 pub returns-in-Fails-clause-left_catalog : goal.returns-in-Fails-clause-left_catalog
 returns-in-Fails-clause-left_catalog c =
     err_then c.fail.result _ _ (λ same. same ∙ c.want.ensures.kept.1) c.fail.ensures.left_catalog
+
+-- The plan is as its job asks for it
+
+pub issue-requires-clause-asked : goal.issue-requires-clause-asked
+issue-requires-clause-asked c =
+    plan_made_by c.args.self.now.known c.want.new.self.known c.args.work c.want.new.work c.want.ensures.kept c.requires.job c.want.ensures.op c.in-Plan.mini c.in-Plan.reply
+    (subst (λ (n : Next). WantsNext c.want.new.self.known c.args.work c.want.new.work n) c.in-Plan.is c.in_ok-want.ensures.wants)
 
 -- A first try that failed
 

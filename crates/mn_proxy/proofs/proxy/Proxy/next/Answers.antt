@@ -9,7 +9,7 @@ use Rattle.mn_proxy.proofs.Turning.{goes_sound, goes_wants, on_error, turn_erran
 use Rattle.mn_proxy.proofs.Lacking.{sent_gives_up}
 use Rattle.mn_proxy.specs.Firsts.{FailsFirst}
 use Rattle.mn_proxy.proofs.Firsts.{sent_first, turned_first}
-use Rattle.mn_proxy.proofs.Turned.{none_goes, turned_agree, turned_cache, turned_catalog, turned_ends, turned_falls, turned_left, turned_legal, turned_lost, turned_reads, turned_sound, turned_wants}
+use Rattle.mn_proxy.proofs.Turned.{none_goes, turned_agree, turned_asked, turned_cache, turned_catalog, turned_ends, turned_falls, turned_left, turned_legal, turned_lost, turned_reads, turned_sound, turned_wants}
 use Rattle.mn_proxy.specs.Turn.{turned}
 use Rattle.std.specs.Prelude.{IfOk, OnErr}
 use Rattle.std.proofs.Common.{◌≡◌}
@@ -23,7 +23,7 @@ use Rattle.mn_proxy.specs.declared.errand.Errand.TheVariants as out
 use Rattle.std.proofs.Common.{None}
 use Rattle.mn_work.specs.Works.{new_work}
 use Rattle.mn_proxy.specs.Agrees.{Wants}
-use Rattle.mn_proxy.specs.Turns.{GivesUp, IsEnd, IsSent, IsSentWholeIn, KeepsSelf, LacksIn}
+use Rattle.mn_proxy.specs.Turns.{GivesUp, IsEnd, IsSent, IsSentWholeIn, KeepsSelf, LacksIn, StepIsAsAsked}
 use Rattle.mn_proxy.proofs.Kept.{unread_leaf}
 use Rattle.mn_proxy.proofs.Sending.{sent_unread, step_caches, step_calls, step_catalogs, step_falls, turn_agrees, turn_sound, under_sent}
 use Rattle.mn_proxy.proofs.proxy.Proxy.next.Goals as goal
@@ -148,6 +148,10 @@ returns-in-Some-clause-leaf c = λ work errand under leaf.
 
 -- Want of memory
 
+pub returns-in-Some-take-clause-made : goal.returns-in-Some-take-clause-made
+returns-in-Some-take-clause-made c =
+    turned_asked c.turn.new.self c.turn.new.self.work c.turn.result refl c.turn.ensures.sound
+
 pub returns-in-Some-take-clause-over : goal.returns-in-Some-take-clause-over
 returns-in-Some-take-clause-over c =
     on_error c.turn.result (IsSentWholeIn c.args.self.now.work) (c.send.ensures.whole c.in-None.is)
@@ -162,6 +166,12 @@ pub returns-in-Some-take-clause-left_catalog : goal.returns-in-Some-take-clause-
 returns-in-Some-take-clause-left_catalog c =
     subst (λ (p : ProxyState). OnErr c.turn.result (CatalogLeft p c.turn.new.self)) (c.self.view_is ∙ c.send.ensures.same c.in-None.is)
     (turned_lost (the_view c.self.inside) c.turn.new.self c.in-Some-take.work c.in-Some-take.errand (sym c.in-Some-take.ensures.value) c.turn.result c.turn.ensures.left_catalog)
+
+pub returns-in-Some-clause-made : goal.returns-in-Some-clause-made
+returns-in-Some-clause-made c =
+    let s = c.in-Some.ensures.sends in
+    subst (λ (p : ProxyState). StepIsAsAsked p c.in-Some.step) (sym s.after_is)
+    (turn_sound c.args.self.now c.send.new.self c.in-Some.step s).3
 
 pub returns-in-Some-clause-lacks : goal.returns-in-Some-clause-lacks
 returns-in-Some-clause-lacks c = λ lacks.

@@ -1,4 +1,4 @@
-use Rattle.std.proofs.Common.{◌≡◌, ◌∙◌, false, sym, ap, subst, length, List}
+use Rattle.std.proofs.Common.{◌≡◌, ◌∙◌, false, true, sym, ap, subst, length, List}
 use Rattle.std.proofs.lemmas.Option.{slice_get_within}
 use Rattle.mn_tree.specs.State.{TreeState}
 use Rattle.mn_txn.specs.declared.seen.SeenPage.{SeenPage}
@@ -7,7 +7,7 @@ use Rattle.mn_base.specs.declared.reply.Reply.TheVariants.{Values}
 use Rattle.mn_work.specs.declared.next.Next.TheVariants as next
 use Rattle.mn_work.specs.Attempts.{IsOnItsWay, IsTold, IsUnderWay, StaysOnItsWay, WantsBy, WantsNext, IsPlanWanted, was_read, with_overlay}
 use Rattle.mn_work.specs.Answers.{worn_by}
-use Rattle.mn_work.proofs.Attempts.{done_may, of_kept, plan_wanted, slots_are_many, to_kept, wanted_kept, worn_page, worn_wants, worn_way}
+use Rattle.mn_work.proofs.Attempts.{done_may, of_kept, plan_wanted, slots_are_many, to_kept, wanted_kept, slot_fails, worn_page, worn_wants, worn_way}
 use Rattle.mn_work.proofs.attempt.Attempt.end.Goals as goal
 
 pub place-requires : goal.place-requires
@@ -51,3 +51,8 @@ returns-in-Err-Worn-clause-wants c =
     (subst (λ (s : TreeState). WantsNext c.args.known.now c.args.later c.args.steps.now (with_overlay c.args.self.now s) (worn_by c.args.later c.in-Err-Worn.node c.in-Err-Worn.start)) (sym c.in_ok-pages.ensures.unchanged)
     (worn_wants c.args.known.now c.args.steps.now c.args.self.now c.args.counts.now c.args.slots.now c.args.later c.in-Err-Worn.node c.in-Err-Worn.start c.in-Some.kept c.in-Some.is c.requires.way c.requires.done c.requires.counts
     (λ way'. worn_page c.args.known.now c.args.steps.now c.args.self.now c.entry-entry.result c.tried.result _ c.moves_are_met.ensures c.new_slots_are_next.ensures c.requires.done c.requires.nodes.1 c.requires.slots c.requires.counts unread c.in_ok-pages.ensures.placed c.in-Some.kept way' c.entry-entry.ensures told c.in-Err-Worn.node c.in-Err-Worn.start (subst (RefusesDone c.tried.result _) c.in-Err-Worn.field-0-is c.in-Err-Worn.ensures.refused))))
+
+pub returns-then-was_read-clause-wants : goal.returns-then-was_read-clause-wants
+returns-then-was_read-clause-wants c =
+    slot_fails c.args.known.now c.args.steps.now c.args.self.now c.args.later c.args.counts.now c.args.slots.now c.requires.way c.requires.done c.requires.counts c.requires.slots
+    (subst (λ (l : List SeenPage). was_read l c.args.slots.now ≡ true) c.as_slice.ensures.value (sym c.was_read.ensures ∙ c.if-was_read.true))

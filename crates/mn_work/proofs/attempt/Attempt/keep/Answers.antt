@@ -10,6 +10,7 @@ returns-in-Ok-clause-comes c = (
       ∙ ap (λ (leaf : Bool). c.args.self.now.pages.items ++ record { addr = c.args.addr; bytes = page_bytes c.args.page; leaf = leaf } ∷ []) ((rw c.get.ensures at c.is_leaf-leaf.ensures) c.requires.page),
   c.in-Ok.ensures.fits,
   λ e. c.in-Ok.ensures.added,
+  λ e. absurd cc,
 )
 
 pub returns-in-Err-BadPath-clause-comes : goal.returns-in-Err-BadPath-clause-comes
@@ -19,4 +20,5 @@ returns-in-Err-BadPath-clause-comes c = (
       ∙ ap (λ (leaf : Bool). c.args.self.now.pages.items ++ record { addr = c.args.addr; bytes = page_bytes c.args.page; leaf = leaf } ∷ []) ((rw c.get.ensures at c.is_leaf-leaf.ensures) c.requires.page),
   (subst (RefusesPage c.args.self.now.overlay c.args.addr c.args.page) c.in-Err-BadPath.field-0-is c.in-Err-BadPath.ensures.refused).1,
   λ e. absurd cc,
+  λ e. c.in-Err-BadPath.ensures.unchanged,
 )

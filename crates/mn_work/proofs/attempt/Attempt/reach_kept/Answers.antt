@@ -1,6 +1,7 @@
 use Rattle.std.proofs.Common.{refl, subst}
 use Rattle.mn_work.specs.Attempts.{ComesIn}
-use Rattle.mn_work.proofs.Attempts.{by_kept, comes_last, comes_on, unfit_may}
+use Rattle.mn_work.proofs.Cached.{found}
+use Rattle.mn_work.proofs.Attempts.{by_kept, comes_last, comes_on, is_unfit, unfit_may}
 use Rattle.mn_work.proofs.attempt.Attempt.reach_kept.Goals as goal
 
 pub returns-then-branch-clause-reached : goal.returns-then-branch-clause-reached
@@ -18,6 +19,17 @@ returns-then-branch-clause-reached c = (
 pub returns-else-branch-clause-reached : goal.returns-else-branch-clause-reached
 returns-else-branch-clause-reached c =
     unfit_may c.args.known.now c.kept_page.new.self c.args.steps.now c.args.self.now c.keep.new.self c.in_ok-kept.ensures.kept c.requires.way
+    (is_unfit c.args.steps.now c.args.self.now c.keep.new.self c.args.addr c.in-Some.kept.page c.requires.asks c.in_ok-keep.ensures.stays
+    (subst (ComesIn c.args.self.now c.args.addr c.in-Some.kept.page c.keep.new.self) c.if-branch.false c.in_ok-keep.ensures.comes))
+
+pub returns-then-branch-clause-inner : goal.returns-then-branch-clause-inner
+returns-then-branch-clause-inner c =
+    let comes = subst (ComesIn c.args.self.now c.args.addr c.in-Some.kept.page c.keep.new.self) c.if-branch.true c.in_ok-keep.ensures.comes in (
+      c.in-Some.kept.page,
+      (found c.args.addr c.args.known.now.cache c.in-Some.kept.page c.requires.pages (rw c.in-Some.is at c.in_ok-kept.ensures.found)).1,
+      comes.1,
+      comes.2 refl,
+    )
 
 pub returns-then-branch-clause-last : goal.returns-then-branch-clause-last
 returns-then-branch-clause-last c =

@@ -1,11 +1,12 @@
 -- None of the cached pages has left before the next one is wanted.
-use Rattle.std.proofs.Common.{◌∙◌, ◌<◌, ℕ, Ok, length, refl, rules, subst, sym}
+use Rattle.std.proofs.Common.{◌≡◌, ◌∙◌, ◌<◌, ℕ, Ok, arith, length, refl, rules, subst, sym}
 use Rattle.std.proofs.lemmas.Option.{slice_get_read}
 use Rattle.mn_tree.specs.State.{AsksFor}
 use Rattle.mn_work.specs.declared.attempt.Reached.{Reached}
-use Rattle.mn_work.specs.Attempts.{ReachesOn}
+use Rattle.mn_work.specs.Attempts.{ComesInner, ReachesOn, with_overlay}
 use Rattle.mn_work.specs.Cached.{Walks, next_at}
 use Rattle.mn_work.proofs.Attempts.{asks_for, ends_last, needs_on, on_its_way, runs_on, then_last}
+use Rattle.mn_work.proofs.Levels.{down_all, down_on}
 use Rattle.mn_work.proofs.Cached.{then_used, uses, walks_none, walks_on}
 use Rattle.mn_work.proofs.attempt.Attempt.run_step.Goals as goal
 
@@ -72,7 +73,14 @@ returns-in-Unfit-clause-last c =
 pub loop-level-preserved : goal.loop-level-preserved
 loop-level-preserved c =
     let came = subst (ReachesOn c.reach.new.known c.args.later c.args.steps.now c.in-Ok-Need.addr c.reach.new.self) c.in-Came.is c.in_ok-reach.ensures.reached in
+    let inner = subst (ComesInner c.in-Ok-Need.addr (with_overlay c.loop-level.self c.step.new.self) c.reach.new.self) c.in-Came.is c.in_ok-reach.ensures.inner in
     let so_far = c.loop-level.invariant in
+    let all = c.args.steps.now in
+    let before = c.loop-level.self in
+    let step = c.index-as_slice-self.result in
+    let more = subst (λ (n : ℕ). n < length all) (sym so_far.2) c.requires.more in
+    let next = slice_get_read all (length all) before.done step refl more (rw c.as_slice.ensures.steps at c.index-as_slice-self.is) in
+    let need = sym c.in-Ok-Need.ensures.answer ∙ c.in-Ok-Need.field-0-is in
     let first = came.0 in (
       runs_on c.args.known.now c.loop-level.known c.reach.new.known c.args.later c.args.steps.now c.args.self.now c.loop-level.self c.reach.new.self so_far.0 c.reach.ensures.kept c.reach.ensures.stays c.reach.ensures.counts c.reach.ensures.later came.1,
       then_used c.args.known.now.cache c.loop-level.known.cache c.reach.new.known.cache so_far.1
@@ -81,4 +89,11 @@ loop-level-preserved c =
       c.reach.ensures.done ∙ so_far.2,
       λ l. absurd cc,
       then_last c.args.known.now.cache c.loop-level.known.cache c.args.self.now c.loop-level.self c.reach.new.self so_far.1 so_far.4 c.in_ok-reach.ensures.last,
+      down_on all c.loop-level._level before c.reach.new.self c.step.new.self step c.in-Ok-Need.addr inner.0 so_far.5 next need c.in-Ok-Need.ensures.state c.reach.ensures.done inner.1 inner.2 inner.3,
     )
+
+-- a path has no more pages
+pub unreachable-requires : goal.unreachable-requires
+unreachable-requires c =
+    let all : c.loop-level._level ≡ 15 = omega arith in
+    down_all c.args.steps.now c.loop-level.self c.loop-level._level c.loop-level.invariant.5 all
