@@ -1,11 +1,11 @@
 //! Disks over files of the system.
+use super::calls::{Call, Tested, gone_through};
 use crate::NodeFile;
-use mn_io::{Disk, Failed};
 use std::test::Fail;
 use std::{env, fs, process};
 
-/// The path of a folder of a test's own, which is made anew.
-fn folder(rt: &HostRuntime, test: &str) -> Result<String, Fail> {
+/// The path of a file in a folder of a test's own, which is made anew.
+fn place(rt: &HostRuntime, test: &str) -> Result<String, Fail> {
     let alloc = rt.alloc();
     let room = env::temp_dir(rt)?;
     let room = room.as_str();
@@ -13,134 +13,159 @@ fn folder(rt: &HostRuntime, test: &str) -> Result<String, Fail> {
     let folder = format!(in alloc; "{room}/mn_filedisk-{test}-{id}")?;
     let _ = fs::remove_dir_all(rt, folder.as_str());
     fs::create_dir(rt, folder.as_str())?;
-    Ok(folder)
+    let folder = folder.as_str();
+    Ok(format!(in alloc; "{folder}/node0.log")?)
 }
 
-/// A disk that is written, over the file at this path.
-fn open_for_writing<'a>(
-    rt: &'a HostRuntime,
-    path: &str,
-) -> Result<NodeFile<&'a HostRuntime>, Fail> {
-    Ok(NodeFile::to_write(rt, String::from_str(rt.alloc(), path)?))
+/// A disk over the file at this path, to be written or to be read alone.
+fn open<'a>(rt: &'a HostRuntime, path: &str, is_written: bool) -> Result<Tested<'a>, Fail> {
+    let path = String::from_str(rt.alloc(), path)?;
+    Ok(if is_written {
+        NodeFile::to_write(rt, path)
+    } else {
+        NodeFile::to_read(rt, path)
+    })
 }
 
-/// One that is only read.
-fn open_for_reading<'a>(
-    rt: &'a HostRuntime,
-    path: &str,
-) -> Result<NodeFile<&'a HostRuntime>, Fail> {
-    Ok(NodeFile::to_read(rt, String::from_str(rt.alloc(), path)?))
+/// What a disk over the file is asked, which is opened for it alone, and how many calls fail.
+type Visit = (bool, &'static [Call], u64);
+
+/// The number of the first of these visits that goes otherwise, or that of all.
+fn visited(rt: &HostRuntime, path: &str, visits: &[Visit]) -> Result<usize, Fail> {
+    for (number, (is_written, calls, faults)) in visits.iter().enumerate() {
+        let mut disk = open(rt, path, *is_written)?;
+        if gone_through(&mut disk, calls) < calls.len() || disk.faults() != *faults {
+            return Ok(number);
+        }
+    }
+    Ok(visits.len())
 }
+
+const KEPT: &[Visit] = &[
+    (
+        true,
+        &[
+            Call::Length(Some(0)),
+            Call::Read(0, Some(b"")),
+            Call::Sync(true),
+        ],
+        0,
+    ),
+    (
+        true,
+        &[
+            Call::Cut(0, true),
+            Call::Write(0, b"abcdef", true),
+            Call::Write(2, b"XY", true),
+            Call::Sync(true),
+        ],
+        0,
+    ),
+    (
+        true,
+        &[
+            Call::Read(1, Some(b"bXYef")),
+            Call::Cut(3, true),
+            Call::Sync(true),
+        ],
+        0,
+    ),
+    (
+        false,
+        &[
+            Call::Length(Some(3)),
+            Call::Sync(true),
+            Call::Read(0, Some(b"abX")),
+            Call::Read(3, Some(b"")),
+            Call::Read(9, Some(b"")),
+            Call::Write(0, b"Z", false),
+        ],
+        1,
+    ),
+    (true, &[Call::Read(0, Some(b"abX"))], 0),
+];
 
 #[test]
 fn what_was_written_is_there_when_it_is_opened_again(rt: HostRuntime) -> Result<(), Fail> {
-    let folder = folder(&rt, "again")?;
-    let path = format!(in rt.alloc(); "{folder}/node0.log")?;
-    let path = path.as_str();
-    let mut into = [0; 8];
-    let mut disk = open_for_writing(&rt, path)?;
-    assert!(rt; disk.length() == Ok(0) && disk.read(0, &mut into) == Ok(0));
-    assert!(rt; disk.cut(0) == Ok(()));
-    assert!(rt; disk.write_at(0, b"abcdef") == Ok(()) && disk.write_at(2, b"XY") == Ok(()));
-    assert!(rt; disk.sync() == Ok(()) && disk.faults() == 0);
-    drop(disk);
-    let mut disk = open_for_writing(&rt, path)?;
-    assert!(rt; disk.read(1, &mut into) == Ok(5) && into == *b"bXYef\0\0\0");
-    assert!(rt; disk.cut(3) == Ok(()) && disk.sync() == Ok(()));
-    drop(disk);
-    let mut disk = open_for_reading(&rt, path)?;
-    assert!(rt; disk.length() == Ok(3) && disk.sync() == Ok(()));
-    assert!(rt; disk.read(0, &mut into) == Ok(3) && into == *b"abXef\0\0\0");
-    assert!(rt; disk.read(3, &mut into) == Ok(0) && disk.read(9, &mut into) == Ok(0));
-    assert!(rt; disk.write_at(0, b"Z") == Err(Failed) && disk.faults() == 1);
-    assert!(rt; fs::metadata(&rt, path)?.len() == 3);
-    fs::remove_dir_all(&rt, folder.as_str())?;
+    let path = place(&rt, "again")?;
+    assert!(rt; visited(&rt, path.as_str(), KEPT)? == KEPT.len());
     Ok(())
 }
 
-#[test]
-fn a_file_has_one_writer_or_some_readers(rt: HostRuntime) -> Result<(), Fail> {
-    let folder = folder(&rt, "locks")?;
-    let path = format!(in rt.alloc(); "{folder}/node0.log")?;
-    let path = path.as_str();
-    let mut writer = open_for_writing(&rt, path)?;
-    assert!(rt; writer.cut(0) == Ok(()));
-    assert!(rt; open_for_writing(&rt, path)?.length() == Err(Failed));
-    assert!(rt; open_for_reading(&rt, path)?.length() == Err(Failed));
-    assert!(rt; writer.write_at(0, b"abc") == Ok(()));
-    drop(writer);
-    let mut reader = open_for_reading(&rt, path)?;
-    assert!(rt; open_for_reading(&rt, path)?.length() == Ok(3));
-    assert!(rt; open_for_writing(&rt, path)?.length() == Err(Failed));
-    assert!(rt; reader.length() == Ok(3));
-    drop(reader);
-    assert!(rt; open_for_writing(&rt, path)?.length() == Ok(3));
-    fs::remove_dir_all(&rt, folder.as_str())?;
-    Ok(())
-}
+const MADE: &[Visit] = &[
+    (
+        false,
+        &[
+            Call::Length(Some(0)),
+            Call::Read(0, Some(b"")),
+            Call::Sync(true),
+        ],
+        0,
+    ),
+    (false, &[Call::Cut(0, false), Call::Sync(false)], 2),
+    (
+        true,
+        &[Call::Write(0, b"abc", false), Call::Cut(0, false)],
+        2,
+    ),
+    (true, &[Call::Length(Some(0)), Call::Sync(true)], 0),
+];
+
+const FIRST_CUT: &[Visit] = &[(true, &[Call::Cut(0, true), Call::Write(0, b"abc", true)], 0)];
 
 #[test]
 fn a_missing_file_is_made_by_the_first_cut(rt: HostRuntime) -> Result<(), Fail> {
-    let folder = folder(&rt, "missing")?;
-    let path = format!(in rt.alloc(); "{folder}/node0.log")?;
+    let path = place(&rt, "missing")?;
     let path = path.as_str();
-    let mut into = [0; 8];
-    let mut reader = open_for_reading(&rt, path)?;
-    assert!(rt; reader.length() == Ok(0) && reader.read(0, &mut into) == Ok(0));
-    assert!(rt; reader.sync() == Ok(()) && reader.faults() == 0);
-    assert!(rt; reader.cut(0) == Err(Failed) && reader.sync() == Err(Failed));
-    let mut writer = open_for_writing(&rt, path)?;
-    assert!(rt; writer.length() == Ok(0) && writer.sync() == Ok(()));
+    assert!(rt; visited(&rt, path, MADE)? == MADE.len());
     assert!(rt; !fs::exists(&rt, path)?);
-    assert!(rt; writer.cut(0) == Ok(()) && fs::exists(&rt, path)?);
-    assert!(rt; writer.write_at(0, b"abc") == Ok(()) && writer.length() == Ok(3));
-    assert!(rt; writer.faults() == 0 && reader.faults() == 2);
-    fs::remove_dir_all(&rt, folder.as_str())?;
-    Ok(())
-}
-
-#[test]
-fn a_write_makes_no_file(rt: HostRuntime) -> Result<(), Fail> {
-    let folder = folder(&rt, "unmade")?;
-    let path = format!(in rt.alloc(); "{folder}/node0.log")?;
-    let path = path.as_str();
-    let mut disk = open_for_writing(&rt, path)?;
-    assert!(rt; disk.write_at(0, b"abc") == Err(Failed) && disk.cut(0) == Err(Failed));
-    assert!(rt; !fs::exists(&rt, path)? && disk.faults() == 2);
-    fs::remove_dir_all(&rt, folder.as_str())?;
-    Ok(())
-}
-
-#[test]
-fn a_file_that_another_made_meanwhile_is_left_alone(rt: HostRuntime) -> Result<(), Fail> {
-    let folder = folder(&rt, "meanwhile")?;
-    let path = format!(in rt.alloc(); "{folder}/node0.log")?;
-    let path = path.as_str();
-    let mut late = open_for_writing(&rt, path)?;
-    let mut early = open_for_writing(&rt, path)?;
-    assert!(rt; early.cut(0) == Ok(()) && early.write_at(0, b"abc") == Ok(()));
-    drop(early);
-    assert!(rt; late.length() == Ok(0) && late.cut(0) == Err(Failed));
+    let mut late = open(&rt, path, true)?;
+    let before = gone_through(&mut late, &[Call::Length(Some(0))]);
+    assert!(rt; before == 1 && visited(&rt, path, FIRST_CUT)? == 1);
+    // What another one made meanwhile is left alone.
+    assert!(rt; gone_through(&mut late, &[Call::Length(Some(0)), Call::Cut(0, false)]) == 2);
     assert!(rt; fs::metadata(&rt, path)?.len() == 3);
-    fs::remove_dir_all(&rt, folder.as_str())?;
+    Ok(())
+}
+
+const LOCKED: &[Visit] = &[
+    (true, &[Call::Length(None)], 1),
+    (false, &[Call::Length(None)], 1),
+];
+
+const READ: &[Visit] = &[
+    (false, &[Call::Length(Some(3))], 0),
+    (true, &[Call::Length(None)], 1),
+];
+
+const FREE: &[Visit] = &[(true, &[Call::Length(Some(3))], 0)];
+
+#[test]
+fn a_file_has_one_writer_or_some_readers(rt: HostRuntime) -> Result<(), Fail> {
+    let path = place(&rt, "locks")?;
+    let path = path.as_str();
+    let mut writer = open(&rt, path, true)?;
+    assert!(rt; gone_through(&mut writer, &[Call::Cut(0, true)]) == 1);
+    assert!(rt; visited(&rt, path, LOCKED)? == 2);
+    assert!(rt; gone_through(&mut writer, &[Call::Write(0, b"abc", true)]) == 1);
+    drop(writer);
+    let mut reader = open(&rt, path, false)?;
+    assert!(rt; gone_through(&mut reader, &[Call::Length(Some(3))]) == 1);
+    assert!(rt; visited(&rt, path, READ)? == 2);
+    drop(reader);
+    assert!(rt; visited(&rt, path, FREE)? == 1);
     Ok(())
 }
 
 #[test]
 fn what_is_no_file_is_not_opened(rt: HostRuntime) -> Result<(), Fail> {
-    let folder = folder(&rt, "other")?;
-    let inside = format!(in rt.alloc(); "{folder}/none/node0.log")?;
-    for path in [folder.as_str(), inside.as_str(), "/dev/null"] {
-        assert!(rt;
-            open_for_writing(&rt, path)?.length() == Err(Failed),
-            "{path}"
-        );
-        assert!(rt;
-            open_for_reading(&rt, path)?.length() == Err(Failed),
-            "{path}"
-        );
+    let path = place(&rt, "other")?;
+    let path = path.as_str();
+    fs::create_dir(&rt, path)?;
+    let inside = format!(in rt.alloc(); "{path}/none/node0.log")?;
+    for path in [path, inside.as_str(), "/dev/null"] {
+        assert!(rt; visited(&rt, path, LOCKED)? == 2, "{path}");
     }
     assert!(rt; !fs::exists(&rt, inside.as_str())?);
-    fs::remove_dir_all(&rt, folder.as_str())?;
     Ok(())
 }
