@@ -12,7 +12,8 @@ use Rattle.mn_mini.specs.RecordGrammar.{IsRecord}
 use Rattle.mn_node.specs.Node.{StandsUpTo, bodies_of}
 use Rattle.mn_page.specs.Base.{base_of}
 use Rattle.mn_redo.specs.Grammar.{Stands}
-use Rattle.mn_runs.specs.Protocol.{FollowsProtocol, Start, base_at, records_of, start_nodes, start_of}
+use Rattle.mn_runs.specs.Protocol.{FollowsProtocol, Start, base_at, records_of, start_nodes}
+use Rattle.mn_runs.specs.Protocol.{start_of}
 use Rattle.mn_runs.specs.declared.entry.Entry.{Entry}
 use Rattle.mn_law.specs.Opened.{IsOpened}
 use Rattle.mn_serial.specs.History.{Placed, pasts_of}

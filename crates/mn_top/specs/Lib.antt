@@ -8,3 +8,4 @@ pub mod Ending
 pub mod Check
 pub mod Logs
 pub mod Program
+pub mod Complete

@@ -35,8 +35,8 @@ HasNumber start = run_number start < 4294967295
 
 -- Damage
 
--- the bytes are damaged at this place, and these bodies, the first of which begins at `start`, stand
--- in front of it
+-- the bytes are damaged at this place, and these bodies, the first of which begins at `start`,
+-- stand in front of it
 abbrev pub IsDamagedBehind : ℕ → ℕ → List ℕ → ℕ → ℕ → List (List ℕ) → Type 0
 IsDamagedBehind nodes k content at start bodies =
     IsDamaged k nodes content at × AreInFront k nodes content at start bodies

@@ -42,8 +42,9 @@ left_behind start past n =
 
 -- The disk of a node as the entries leave it, with records of the grammar. Each image of an honest
 -- disk stands for the node's records, of which the first may be shortened, or, while the node is
--- down, for these and the one that may stand behind them. The node stopped inside a request only where that would have added a record;
--- unasked, at most as often as the disk's count of faults rose. Each restart of a node with an
+-- down, for these and the one that may stand behind them. The node stopped inside a request only
+-- where that would have added a record; unasked, at most as often as the disk's count of faults
+-- rose. Each restart of a node with an
 -- honest disk found what the stop before it had asked for.
 pub record IsLeft {D : Type 0} (state : D → DiskState) (faults : D → ℕ) (start : Start)
     (past : List Entry) (n : NodeNo) (given left : D) : Type 0 where

@@ -3,6 +3,7 @@ ghost use Rattle.std.specs.Io.KnownBytes.{IsAtEnd};
 ghost use Rattle.mn_io.specs.Faults.{Rose};
 ghost use Rattle.mn_script.specs.Reading.{script_of as read_as};
 ghost use Rattle.mn_top.specs.declared.due.Due.{Due};
+ghost use Rattle.mn_top.specs.Complete.{IsComplete};
 ghost use Rattle.mn_top.specs.Crashes.{StayOpenable};
 ghost use Rattle.mn_top.specs.Words.{AskText};
 ghost use Rattle.mn_top.specs.Program.{Finishes, IsDue, IsDueBefore, IsTask};
@@ -17,6 +18,7 @@ use crate::words::{Command, Words, plays_script};
 use mn_base::Gate;
 use mn_gen::gen_script;
 use mn_io::{Disk, ReadError, Sink, Source, read_all};
+use mn_redo::{damaged_or_not, one_list};
 use mn_script::{Script, ScriptError, read_script};
 use std::alloc::Global;
 use std::sync::Wait;
@@ -149,6 +151,9 @@ fn ended<T: Threads + Wait + Sync, R: Source, D: Disk + Send, G: Gate + Sync>(
 /// | 7 | `no memory` | there was no memory |
 /// | 8 | `disks GIVEN WANTED` | the words or the script ask for another number of disks |
 ///
+/// Where the words and the text are right, the disks are honest and hold a store, and no count of
+/// faults rises, it is 0 or 7.
+///
 /// The rule `runs` of status 6 tells that no number is left for a run, which is no matter to a
 /// check, and `kept` that at closing a disk had another list than its node.
 ///
@@ -177,7 +182,16 @@ pub fn run_program<T: Threads + Wait + Sync, R: Source, W: Sink, D: Disk + Send,
 
     // Honest disks of which a crash leaves a store are handed back so, whatever was due.
     ensures crash { StayOpenable D.state disks.items result.disks.items }
+
+    // Right words and a right text on honest disks that hold a store come to their end, or to want
+    // of memory, where no count of faults rose. A script to be run wants a number for the run.
+    ensures complete { IsComplete D.state D.faults words.now (R.remaining source.old)
+        (Rose (R.faults source.old) (R.faults source.new))
+        (Rose (W.faults sink.old) (W.faults sink.new)) disks.items result.disks.items
+        result.status }
 {
+    one_list();
+    damaged_or_not();
     let Ended { due, disks, log } = ended(rt, alloc, words, source, disks, gate);
     Outcome {
         status: finish(alloc, sink, &due),
