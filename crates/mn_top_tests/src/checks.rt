@@ -11,7 +11,7 @@ const NOTHING: &str =
     "check yes\nversion main - writable 0 e3b0c44298fc1c149afbf4c8996fb92427ae41e4649b934ca495991b7852b855\nend\n";
 
 /// Checks these disks. The source would fail if it were called.
-fn check<T: Threads + Wait + Sync + AllocGlobal>(
+pub fn check<T: Threads + Wait + Sync + AllocGlobal>(
     rt: &T,
     disks: Vec<MemoryDisk>,
 ) -> Result<Ran, Fail> {
