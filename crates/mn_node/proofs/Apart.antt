@@ -1,5 +1,5 @@
 -- What a node's records keep, whatever it is asked.
-use Rattle.std.proofs.Common.{◌≡◌, ◌<◌, ◌≤◌, ℕ, inl, inr, arith, length, Bool, true, false, List, [], ◌∷◌, reverse, Option, Some, None, refl, ap, sym, ◌∙◌, subst, if◌then◌else◌}
+use Rattle.std.proofs.Common.{◌≡◌, ◌<◌, ◌≤◌, ℕ, inl, inr, arith, Bool, true, false, List, [], ◌∷◌, reverse, Option, Some, None, refl, ap, sym, ◌∙◌, subst, if◌then◌else◌}
 use Rattle.std.specs.List.{AllByRecursion}
 use Rattle.std.proofs.lemmas.List.{reverse-append}
 use Rattle.mn_mini.specs.declared.part.PartItem.{PartItem}

@@ -1,18 +1,15 @@
 -- A list whose first records are shortened.
-use Rattle.std.proofs.Common.{◌≡◌, ◌≤◌, ◌+◌, ◌∙◌, ℕ, zero, suc, List, [], ◌∷◌, ◌++◌, length, take, drop, reverse, Option, Some, None, refl, ap, sym, subst, inl, inr, arith}
-use Rattle.std.specs.Prelude.{◌⊎◌}
+use Rattle.std.proofs.Common.{◌≡◌, ◌≤◌, ◌+◌, ◌∙◌, ℕ, zero, suc, List, [], ◌∷◌, ◌++◌, length, take, drop, Option, Some, None, refl, ap, sym, subst, inl, inr, arith}
 use Rattle.std.specs.List.{AllByRecursion}
 use Rattle.std.proofs.Math.Seq.{take-length, drop-length}
 use Rattle.std.proofs.lemmas.List.{take-append-le, drop-append-le, append-nil, append_assoc}
 use Rattle.mn_base.proofs.Lists.{all_append}
-use Rattle.mn_io.specs.DiskModel.{DiskState}
 use Rattle.mn_redo.specs.Grammar.{Stands}
 use Rattle.mn_mini.specs.declared.record.Record.{Record}
 use Rattle.mn_mini.specs.Laws.{ShortKeepsGrammar}
 use Rattle.mn_mini.specs.RecordGrammar.{IsRecord}
 use Rattle.mn_mini.specs.Short.{short}
-use Rattle.mn_node.specs.declared.memory.Memory.{Memory}
-use Rattle.mn_node.specs.Node.{IsEither, IsUpToWithOrWithout, StandsUpTo, added_to, bodies_of, listed, on_disk}
+use Rattle.mn_node.specs.Node.{IsEither, IsUpToWithOrWithout, StandsUpTo, added_to, bodies_of, listed}
 
 pub listed_none : (records : List Record) → listed 0 records ≡ records
 listed_none records = refl

@@ -1,5 +1,5 @@
 -- What a crash leaves at the moments of a call.
-use Rattle.std.proofs.Common.{◌≡◌, ◌≢◌, ◌≤◌, ◌++◌, ◌∷◌, [], ◌∙◌, inl, inr, ⊎_elim, ℕ, Bool, List, Option, Some, length, refl, ap, sym, subst, arith}
+use Rattle.std.proofs.Common.{◌≡◌, ◌≤◌, ◌++◌, ◌∷◌, [], ◌∙◌, inl, inr, ⊎_elim, ℕ, Bool, List, Option, Some, length, refl, ap, sym, subst, arith}
 use Rattle.mn_io.specs.DiskModel.{DiskState, IsDisk, LeavesOnly, NoneNew, DiskStays, WritesNothing}
 use Rattle.mn_io.proofs.Moments.{LeavesOnly-trans, LeavesOnly-weaker}
 use Rattle.mn_redo.specs.Grammar.{IsBeforeOrAfter, Stands}

@@ -1,18 +1,17 @@
 -- A record that is put into a log, which may be shortened first.
-use Rattle.std.proofs.Common.{vec_len, ◌≡◌, ◌≤◌, ◌++◌, ◌∷◌, [], ◌∙◌, inl, inr, ⊎_elim, ℕ, Bool, true, false, List, length, Option, Some, None, Result, Ok, Err, OnErr, refl, ap, sym, subst, arith}
+use Rattle.std.proofs.Common.{◌≡◌, ◌≤◌, inr, ℕ, true, List, length, Option, Some, Result, Ok, Err, OnErr, refl, sym, subst}
 use Rattle.std.specs.Result.{is_err}
 use Rattle.mn_base.specs.declared.gate.StopAt.{StopAt}
 use Rattle.mn_io.specs.DiskModel.{DiskState, IsDisk, LeavesOnly}
 use Rattle.mn_io.proofs.Moments.{LeavesOnly-weaker}
 use Rattle.mn_redo.specs.Appender.{AppenderState, IsLogOf}
-use Rattle.mn_redo.specs.Grammar.{IsBeforeOrAfter, IsOneOrOther, Stands}
+use Rattle.mn_redo.specs.Grammar.{IsBeforeOrAfter, IsOneOrOther}
 use Rattle.mn_redo.specs.Redo.{HasHeader, StandsFor}
 use Rattle.mn_mini.specs.declared.record.Record.{Record}
-use Rattle.mn_mini.specs.declared.request.Request.{Request}
 use Rattle.mn_mini.specs.RecordGrammar.{record_bytes}
 use Rattle.mn_mini.specs.Short.{short}
 use Rattle.mn_node.specs.declared.memory.Memory.{Memory}
-use Rattle.mn_node.specs.Node.{CrashLeavesOnly, DiskStaysIfHonest, HasStopped, IsEither, IsLogFor, IsNodeUp, IsUpToWithOrWithout, LogKeepsDisk, StandsForEither, StandsUpTo, StandsWithOrWithout, StopLeaves, added_to, bodies_of, listed, on_disk}
+use Rattle.mn_node.specs.Node.{CrashLeavesOnly, DiskStaysIfHonest, HasStopped, IsLogFor, IsNodeUp, IsUpToWithOrWithout, LogKeepsDisk, StandsForEither, bodies_of, listed}
 use Rattle.mn_node.proofs.Listed.{up_to_either, up_to_short}
 use Rattle.mn_node.proofs.Moments.{crash_leaves_at_rest, crash_leaves_weaker, moved, up_images, with_record}
 

@@ -1,5 +1,5 @@
 -- Why a restart fails, and what it finds.
-use Rattle.std.proofs.Common.{vec_len, ◌≡◌, ◌≢◌, ◌≤◌, ◌*◌, ◌++◌, ◌∷◌, [], ◌∙◌, ℕ, zero, suc, Bool, true, false, List, length, reverse, Option, Some, None, inl, inr, refl, Result, Ok, Err, OnOk, IfOk, IfErr, IsTrue, ◌↔◌, ap, sym, subst, arith, length-append}
+use Rattle.std.proofs.Common.{vec_len, ◌≡◌, ◌≢◌, ◌≤◌, ◌*◌, ◌++◌, ◌∷◌, [], ◌∙◌, ℕ, Bool, true, false, List, length, reverse, Option, Some, None, inl, inr, refl, Result, Ok, Err, OnOk, IfOk, IfErr, IsTrue, ◌↔◌, ap, sym, subst}
 use Rattle.std.specs.Prelude.{◌⊎◌, IsSome}
 use Rattle.std.specs.List.{AllByRecursion}
 use Rattle.std.proofs.lemmas.Bool.{false≢true}
@@ -28,7 +28,6 @@ use Rattle.mn_node.specs.Node.{IsEither, IsNodeUp, IsLogFor, IsUpToWithOrWithout
 use Rattle.mn_node.specs.Restart.{AreBodiesWithOrWithout, AreOtherBodies, FailsRestart, IsDamage, IsNoLog, RestartLeaves, TellsOtherRecords, error_of}
 use Rattle.mn_node.specs.State.{MayBeFound, is_longer, list_of, other_list_of}
 use Rattle.mn_node.proofs.Listed.{listed_added, listed_more, listed_sound, up_to_either, up_to_short}
-use Rattle.mn_node.proofs.Found.{unsome}
 use Rattle.mn_node.proofs.Moments.{still_stands}
 use Rattle.mn_node.proofs.Steps.{same_on_disk}
 

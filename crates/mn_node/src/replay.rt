@@ -58,8 +58,8 @@ fn apply(
     }
 }
 
-/// Makes what the records from a number on write, one after the other, and notes what they change in
-/// the held votes.
+/// Makes what the records from a number on write, one after the other, and notes what they change
+/// in the held votes.
 fn write_from(
     records: &[Record],
     from: usize,

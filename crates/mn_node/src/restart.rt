@@ -1,4 +1,4 @@
-ghost use Rattle.std.specs.Prelude.{◌≡◌, ◌≢◌, ◌≤◌, ◌<◌, ◌++◌, ◌∷◌, [], ℕ, List, Option, length};
+ghost use Rattle.std.specs.Prelude.{◌≡◌, ◌≢◌, ◌<◌, ◌++◌, ◌∷◌, [], ℕ, List, Option, length};
 ghost use Rattle.std.specs.Prelude.{reverse};
 ghost use Rattle.std.specs.Prelude.{get_or, Some, None, true, false, IfOk, IfErr, OnOk, OnErr};
 ghost use Rattle.std.specs.Prelude.{MatchOption, ⊤};
@@ -257,7 +257,8 @@ fn compare_listed(
 ) -> Result<bool, RestartError>
     requires front { HasFront memory.now }
     requires sound { AllByRecursion IsRecord (added_to memory.now.records.items pending.now) }
-    ensures listed { IfOk result (AreBodiesWithOrWithout log.bodies (on_disk memory.now) pending.now) }
+    ensures listed { IfOk result
+        (AreBodiesWithOrWithout log.bodies (on_disk memory.now) pending.now) }
     ensures differs { IfErr result (TellsOtherRecords log (on_disk memory.now) pending.now) }
 {
     short_is_like_whole();

@@ -1,10 +1,9 @@
 -- Where nothing is in the way, whatever is due is a report or want of memory.
-use Rattle.std.proofs.Common.{◌≡◌, ◌≢◌, ◌≤◌, ◌<◌, ◌+◌, ◌-◌, ◌^◌, ◌∙◌, ℕ, zero, suc, true, false, List, [], ◌∷◌, length, take, map, get_or, refl, ap, sym, subst, arith, inl, inr, Ok, Err}
-use Rattle.std.specs.Prelude.{◌⊎◌, Option, Result, Some, None, IfSome, bytes_eq, codes, decimal, min, slice_get, slice_index_or}
+use Rattle.std.proofs.Common.{◌≡◌, ◌≢◌, ◌≤◌, ◌<◌, ◌+◌, ◌-◌, ◌^◌, ◌∙◌, ℕ, zero, suc, true, false, List, [], ◌∷◌, length, get_or, refl, ap, sym, subst, arith, inl, inr, Ok, Err}
+use Rattle.std.specs.Prelude.{◌⊎◌, Option, Result, Some, None, IfSome, bytes_eq, min, slice_get}
 use Rattle.std.specs.List.{AllByRecursion}
 use Rattle.std.proofs.lemmas.Bool.{false≢true}
 use Rattle.std.proofs.lemmas.Fmt.{decimal_injective}
-use Rattle.std.proofs.lemmas.List.{length-map}
 use Rattle.mn_base.proofs.Keys.{bytes_eq-refl}
 use Rattle.mn_base.specs.Store.{Store}
 use Rattle.mn_base.specs.declared.ids.NodeNo.{NodeNo}
@@ -12,14 +11,14 @@ use Rattle.mn_cell.specs.Calls.{numbered}
 use Rattle.mn_flat.proofs.Placing.{unfit}
 use Rattle.mn_flat.specs.declared.error.VoteError.{VoteError}
 use Rattle.mn_flat.specs.declared.error.VoteError.TheVariants as vote
-use Rattle.mn_flat.specs.Refusal.{RefusesRecords, IsWantOfMemory}
+use Rattle.mn_flat.specs.Refusal.{RefusesRecords}
 use Rattle.mn_forest.proofs.Holding.{holding_passes}
 use Rattle.mn_forest.specs.declared.error.Rule.{Rule}
 use Rattle.mn_forest.specs.Refusal.{NamesBroken}
 use Rattle.mn_io.specs.DiskModel.{DiskState}
 use Rattle.mn_io.specs.Faults.{Rose}
 use Rattle.mn_mini.specs.declared.record.Record.{Record}
-use Rattle.mn_mini.specs.RecordGrammar.{IsRecord, SpellsNone, record_bytes}
+use Rattle.mn_mini.specs.RecordGrammar.{IsRecord, SpellsNone}
 use Rattle.mn_node.specs.Node.{bodies_of}
 use Rattle.mn_node.specs.State.{IsFirstBadBody}
 use Rattle.mn_page.specs.Holds.{Holds}
@@ -37,12 +36,12 @@ use Rattle.mn_top.specs.declared.due.Due.{Due}
 use Rattle.mn_top.specs.declared.due.Due.TheVariants.{Report, Usage, Refused, ReadFault, DiskFault, Damaged, NoMemory, Disks}
 use Rattle.mn_top.specs.declared.words.Command.{Command}
 use Rattle.mn_top.specs.declared.words.Command.TheVariants.{Replay, Run, Gen, Check}
-use Rattle.mn_top.specs.Check.{ChecksTo, HasRisen}
+use Rattle.mn_top.specs.Check.{ChecksTo}
 use Rattle.mn_top.specs.Complete.{HoldsScript, IsAskedRight, IsComplete, IsRightCall, LeavesNumber, NoneRose}
 use Rattle.mn_top.specs.Ending.{ComesTo, Misfits, Replaying}
 use Rattle.mn_top.specs.Opening.{Begins, HasNumber, IsDamagedFirst, IsFirstBadLog, IsOpenedAs, ReadsAs, Show}
 use Rattle.mn_top.specs.Program.{Finishes, IsDue, IsDueBefore, IsTextOf, status_of}
-use Rattle.mn_top.specs.Words.{AskCheck, AskFor, AskNodes, AskText, Asked, Asks, MayHaveNumber, Text, command_word, plays_script}
+use Rattle.mn_top.specs.Words.{AskNodes, AskText, Asked, Asks, MayHaveNumber, Text, command_word, plays_script}
 use Rattle.mn_top.proofs.Again.{AreOneList}
 use Rattle.mn_top.proofs.Gets.{there_at, within}
 use Rattle.mn_top.proofs.OnLogs.{bodies_once}

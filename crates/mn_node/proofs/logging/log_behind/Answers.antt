@@ -1,4 +1,4 @@
-use Rattle.std.proofs.Common.{vec_len, ◌≡◌, ◌≤◌, ◌+◌, ◌*◌, ◌++◌, ◌∷◌, [], ◌∙◌, inr, ℕ, List, Some, length, refl, ap, sym, subst, arith}
+use Rattle.std.proofs.Common.{vec_len, ◌≡◌, ◌≤◌, ◌+◌, ◌*◌, ◌++◌, ◌∷◌, [], ◌∙◌, inr, ℕ, List, Some, length, ap, sym, subst, arith}
 use Rattle.mn_io.specs.Faults.{Rose}
 use Rattle.mn_redo.specs.Appender.{IsLogOf}
 use Rattle.mn_redo.specs.Grammar.{total}

@@ -1,9 +1,9 @@
-use Rattle.std.proofs.Common.{◌++◌, ◌∷◌, [], ◌≡◌, ◌≤◌, ℕ, List, Some, inl, refl, ap, arith, length, subst, sym, ◌∙◌}
+use Rattle.std.proofs.Common.{◌++◌, ◌∷◌, [], ℕ, List, Some, inl, refl, ap, arith, length, subst, sym, ◌∙◌}
 use Rattle.mn_mini.specs.declared.record.Record.{Record}
 use Rattle.mn_node.specs.Node.{HasRoomForRecord, IsLogFor, bodies_of, listed, on_disk}
 use Rattle.mn_node.proofs.Moments.{logging_moments}
 use Rattle.mn_node.proofs.Puts.{rest_moments}
-use Rattle.mn_node.proofs.Steps.{keeps_then, on_ok, one_body_more, same_on_disk, stops_here, stops_earlier}
+use Rattle.mn_node.proofs.Steps.{keeps_then, on_ok, one_body_more, stops_here, stops_earlier}
 use Rattle.mn_node.proofs.logging.log_bytes.Goals as goal
 
 pub returns-then-not-append_or_stop-clause-leaves : goal.returns-then-not-append_or_stop-clause-leaves

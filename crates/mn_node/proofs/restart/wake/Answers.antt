@@ -1,6 +1,5 @@
-use Rattle.std.proofs.Common.{List, ap, arith, length}
+use Rattle.std.proofs.Common.{arith}
 use Rattle.mn_redo.specs.Grammar.{Stands}
-use Rattle.mn_mini.specs.declared.record.Record.{Record}
 use Rattle.mn_node.specs.Node.{bodies_of, on_disk}
 use Rattle.mn_node.proofs.Fronts.{front_same}
 use Rattle.mn_node.proofs.Moments.{only_same}

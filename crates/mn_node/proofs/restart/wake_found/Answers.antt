@@ -1,4 +1,4 @@
-use Rattle.std.proofs.Common.{◌≡◌, ◌∙◌, ◌++◌, ◌∷◌, [], ℕ, List, Option, Some, length, refl, ap, sym, subst}
+use Rattle.std.proofs.Common.{◌≡◌, ◌∙◌, ◌++◌, ◌∷◌, [], ℕ, List, Option, length, refl, ap, sym, subst}
 use Rattle.mn_io.specs.DiskModel.{LeavesOnly}
 use Rattle.mn_redo.specs.Appender.{IsLogOf}
 use Rattle.mn_redo.specs.Grammar.{Stands}

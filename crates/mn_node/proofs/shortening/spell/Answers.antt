@@ -1,4 +1,4 @@
-use Rattle.std.proofs.Common.{◌≡◌, ◌≤◌, ◌+◌, ◌<◌, ◌++◌, ◌∷◌, [], List, ℕ, length, ap, sym, subst, ◌∙◌, take, arith, rules}
+use Rattle.std.proofs.Common.{◌≡◌, ◌+◌, ◌++◌, ◌∷◌, [], ℕ, length, ap, sym, subst, ◌∙◌, take, arith}
 use Rattle.std.proofs.lemmas.List.{take_more}
 use Rattle.mn_node.proofs.Spelled.{AreSpelled, one_spelled}
 use Rattle.mn_mini.specs.declared.record.Record.{Record}

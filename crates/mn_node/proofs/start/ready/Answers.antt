@@ -1,4 +1,4 @@
-use Rattle.std.proofs.Common.{ℕ, ◌∙◌, ap, arith, length}
+use Rattle.std.proofs.Common.{ℕ, ◌∙◌, ap, arith}
 use Rattle.mn_redo.specs.Grammar.{Stands}
 use Rattle.mn_node.specs.Node.{bodies_of, listed}
 use Rattle.mn_node.proofs.Moments.{only_same}
