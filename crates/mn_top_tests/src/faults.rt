@@ -3,7 +3,7 @@
 use crate::checks::check;
 use crate::histories::has_line;
 use crate::program::{Given, Ran, disk_of, nodes_word, replay, run_gated};
-use mn_base::{Answer, ClientNo, OpenGate, Reply};
+use mn_base::{Answer, ClientNo, OpenGate, Reply, Value};
 use mn_memdisk::{LastCall, MemoryDisk, StopsAfter};
 use mn_runs::{Entry, Log, What};
 use mn_top::Outcome;
@@ -12,13 +12,32 @@ use std::sync::{Arc, Wait};
 use std::test::Fail;
 use std::thread::Threads;
 
-/// A script of one client, one that reads what it wrote, the line that is read where an operation
-/// was replied to, by its number, and lines that are never read.
+/// What a client was replied to the operation of its number: anything, or these values; and the line
+/// that is read ever after.
+struct Told {
+    client: u8,
+    number: u32,
+    values: Option<&'static [&'static str]>,
+    line: &'static str,
+}
+
+/// It was done, by the first client.
+const fn done(number: u32, line: &'static str) -> Told {
+    Told {
+        client: 0,
+        number,
+        values: None,
+        line,
+    }
+}
+
+/// A script, one that reads what it wrote, what is read where an operation was replied to, and lines
+/// that are never read.
 struct Story {
     nodes: usize,
     script: &'static str,
     reads: &'static str,
-    found: &'static [(u32, &'static str)],
+    found: &'static [Told],
     never: &'static [&'static str],
 }
 
@@ -26,7 +45,7 @@ const PUTS: Story = Story {
     nodes: 1,
     script: "nodes 1\nclient s\nput main k v\nput main l w\nget main k\n",
     reads: "nodes 1\nclient r\nget main k\nget main l\n",
-    found: &[(1, "r 1 ok =v"), (2, "r 2 ok =w")],
+    found: &[done(1, "r 1 ok =v"), done(2, "r 2 ok =w")],
     never: &[],
 };
 
@@ -35,7 +54,7 @@ const VOTES: Story = Story {
     nodes: 2,
     script: "nodes 2\nclient s\ntx main put k1 v ; put k2 v ; put k3 v ; put k4 v ; put k5 v ; put k6 v ; put k7 v ; put k8 v ; put k9 v\ntx main put k0 w ; put k91 w\n",
     reads: "nodes 2\nclient r\ntx main get k1 ; get k9\ntx main get k0 ; get k91\n",
-    found: &[(1, "r 1 ok =v =v"), (2, "r 2 ok =w =w")],
+    found: &[done(1, "r 1 ok =v =v"), done(2, "r 2 ok =w =w")],
     never: &["r 1 ok =v -", "r 1 ok - =v", "r 2 ok =w -", "r 2 ok - =w"],
 };
 
@@ -44,12 +63,48 @@ const VERSIONS: Story = Story {
     script: "nodes 2\nclient s\nput main k v\nsnapshot main m\nput m k w\nbranch main x\n",
     reads: "nodes 2\nclient r\nget main k\nget m l\nget m k\nget x l\n",
     found: &[
-        (1, "r 1 ok =v"),
-        (2, "r 2 ok -"),
-        (3, "r 3 ok =w"),
-        (4, "r 4 ok -"),
+        done(1, "r 1 ok =v"),
+        done(2, "r 2 ok -"),
+        done(3, "r 3 ok =w"),
+        done(4, "r 4 ok -"),
     ],
     never: &["r 1 ok =w"],
+};
+
+/// Node 1 stops behind the vote of a, is restarted, and a coordinator recovers it; then b reads both.
+const STOPS: Story = Story {
+    nodes: 2,
+    script: "nodes 2\nrecoverers 1\nclient s\ntx main put k1 v ; put k2 v ; put k3 v ; put k4 v ; put k5 v ; put k6 v ; put k7 v ; put k8 v ; put k9 v\nclient a\ntx main put k1 x ; put k5 x\nclient b\ntx main get k1 ; get k5\nstop 1 a 1 after\nschedule\nall s\ngo a\nrestart 1\nrecover 1 a\nall b\n",
+    reads: "nodes 2\nclient r\ntx main get k1 ; get k5\nget main k9\n",
+    found: &[
+        done(1, "r 2 ok =v"),
+        Told {
+            client: 1,
+            number: 1,
+            values: None,
+            line: "r 1 ok =x =x",
+        },
+        Told {
+            client: 2,
+            number: 1,
+            values: Some(&["v", "v"]),
+            line: "r 1 ok =v =v",
+        },
+        Told {
+            client: 2,
+            number: 1,
+            values: Some(&["x", "x"]),
+            line: "r 1 ok =x =x",
+        },
+    ],
+    never: &[
+        "r 1 ok =x =v",
+        "r 1 ok =v =x",
+        "r 1 ok =v -",
+        "r 1 ok - =v",
+        "r 1 ok =x -",
+        "r 1 ok - =x",
+    ],
 };
 
 /// Which calls fail: one of the disk of a node, all of the disks from one on, one of the source, or
@@ -142,33 +197,62 @@ fn left_of(alloc: Global, disks: Vec<StopsAfter>, choice: u64) -> Result<Vec<Mem
     Ok(left)
 }
 
-/// Whether the entry answers the operation of this number of the first client, and it was done.
-fn does(entry: &Entry, number: u32) -> bool {
-    match &entry.what {
-        What::Answered {
-            number: answered,
-            answer: Answer::Replied {
-                reply: Reply::Values { .. } | Reply::Made,
-            },
-        } => *answered == number && entry.client == Some(ClientNo(0)),
-        _ => false,
+/// Whether a value was found, and is this one.
+fn is_found(found: &Option<Value>, value: &str) -> bool {
+    match found {
+        Some(found) => found.as_slice() == value.as_bytes(),
+        None => false,
     }
 }
 
-/// Whether a log answers that operation so.
-fn is_done(log: &Log, number: u32) -> bool {
+/// Whether a reply gives these values, in their order.
+fn gives(reply: &Reply, values: &[&str]) -> bool {
+    let Reply::Values { found } = reply else {
+        return false;
+    };
+    for (place, value) in values.iter().enumerate() {
+        match found.get(place) {
+            Some(found) if is_found(found, value) => {}
+            _ => return false,
+        }
+    }
+    true
+}
+
+/// Whether this is what was told.
+fn is_told(told: &Told, reply: &Reply) -> bool {
+    match told.values {
+        Some(values) => gives(reply, values),
+        None => matches!(reply, Reply::Values { .. } | Reply::Made),
+    }
+}
+
+/// Whether the entry tells it.
+fn tells(entry: &Entry, told: &Told) -> bool {
+    let What::Answered {
+        number,
+        answer: Answer::Replied { reply },
+    } = &entry.what
+    else {
+        return false;
+    };
+    *number == told.number && entry.client == Some(ClientNo(told.client)) && is_told(told, reply)
+}
+
+/// Whether a log tells it.
+fn was_told(log: &Log, told: &Told) -> bool {
     for place in 0..log.len() {
-        if does(log.entry(place), number) {
+        if tells(log.entry(place), told) {
             return true;
         }
     }
     false
 }
 
-/// Whether a report has the line of each operation that was done by this log.
-fn has_all_done(story: &Story, log: &Log, report: &str) -> bool {
-    for (number, line) in story.found {
-        if is_done(log, *number) && !has_line(report, line) {
+/// Whether a report has the line of all that was told by this log.
+fn has_all_told(story: &Story, log: &Log, report: &str) -> bool {
+    for told in story.found {
+        if was_told(log, told) && !has_line(report, told.line) {
             return false;
         }
     }
@@ -185,7 +269,7 @@ fn has_no_half(story: &Story, report: &str) -> bool {
     true
 }
 
-/// Whether disks hold a store in which all is that was done by this log.
+/// Whether disks hold a store in which all is that was told by this log.
 fn hold_it<T: Threads + Wait + Sync + AllocGlobal>(
     rt: &T,
     story: &Story,
@@ -199,7 +283,7 @@ fn hold_it<T: Threads + Wait + Sync + AllocGlobal>(
     let Outcome { disks, .. } = outcome;
     let again = replay(rt, story.reads, disks)?;
     let report = again.text();
-    Ok(again.outcome.status == 0 && has_all_done(story, log, report) && has_no_half(story, report))
+    Ok(again.outcome.status == 0 && has_all_told(story, log, report) && has_no_half(story, report))
 }
 
 /// What becomes of a story where a call fails so, and a crash leaves of the disks what this choice
@@ -295,6 +379,13 @@ fn a_crash_leaves_all_or_nothing_of_a_vote(rt: HostRuntime) -> Result<(), Fail> 
 #[test]
 fn a_crash_leaves_the_versions_that_were_made(rt: HostRuntime) -> Result<(), Fail> {
     let lost = lost_in(&rt, &VERSIONS)?;
+    assert!(rt; lost == None, "{lost:?}");
+    Ok(())
+}
+
+#[test]
+fn a_crash_leaves_what_was_told_of_a_stop(rt: HostRuntime) -> Result<(), Fail> {
+    let lost = lost_in(&rt, &STOPS)?;
     assert!(rt; lost == None, "{lost:?}");
     Ok(())
 }
