@@ -1,3 +1,4 @@
+-- What the records of a node tell of its votes, its executions and the parts that it holds.
 use Rattle.std.proofs.Common.{◌≡◌, Bool, ◌&&◌, List, [], ◌∷◌, refl, ap, ◌∙◌, ℕ, true, false, not, ◌||◌, inl, inr, Option, Some, None, subst, if◌then◌else◌}
 use Rattle.std.specs.List.{list_all, AllByRecursion, list_any}
 use Rattle.mn_base.specs.declared.ids.NodeNo.{NodeNo}
