@@ -12,24 +12,9 @@ use std::sync::{Arc, Wait};
 use std::test::Fail;
 use std::thread::Threads;
 
-/// What a client was replied to the operation of its number: anything, or these values; and the line
-/// that is read ever after.
-struct Told {
-    client: u8,
-    number: u32,
-    values: Option<&'static [&'static str]>,
-    line: &'static str,
-}
-
-/// It was done, by the first client.
-const fn done(number: u32, line: &'static str) -> Told {
-    Told {
-        client: 0,
-        number,
-        values: None,
-        line,
-    }
-}
+/// The client and the number of an operation, the values that it was replied with, where not any
+/// reply counts, and the line that is read ever after.
+type Told = (u8, u32, &'static [&'static str], &'static str);
 
 /// A script, one that reads what it wrote, what is read where an operation was replied to, and lines
 /// that are never read.
@@ -45,7 +30,7 @@ const PUTS: Story = Story {
     nodes: 1,
     script: "nodes 1\nclient s\nput main k v\nput main l w\nget main k\n",
     reads: "nodes 1\nclient r\nget main k\nget main l\n",
-    found: &[done(1, "r 1 ok =v"), done(2, "r 2 ok =w")],
+    found: &[(0, 1, &[], "r 1 ok =v"), (0, 2, &[], "r 2 ok =w")],
     never: &[],
 };
 
@@ -54,7 +39,7 @@ const VOTES: Story = Story {
     nodes: 2,
     script: "nodes 2\nclient s\ntx main put k1 v ; put k2 v ; put k3 v ; put k4 v ; put k5 v ; put k6 v ; put k7 v ; put k8 v ; put k9 v\ntx main put k0 w ; put k91 w\n",
     reads: "nodes 2\nclient r\ntx main get k1 ; get k9\ntx main get k0 ; get k91\n",
-    found: &[done(1, "r 1 ok =v =v"), done(2, "r 2 ok =w =w")],
+    found: &[(0, 1, &[], "r 1 ok =v =v"), (0, 2, &[], "r 2 ok =w =w")],
     never: &["r 1 ok =v -", "r 1 ok - =v", "r 2 ok =w -", "r 2 ok - =w"],
 };
 
@@ -63,10 +48,10 @@ const VERSIONS: Story = Story {
     script: "nodes 2\nclient s\nput main k v\nsnapshot main m\nput m k w\nbranch main x\n",
     reads: "nodes 2\nclient r\nget main k\nget m l\nget m k\nget x l\n",
     found: &[
-        done(1, "r 1 ok =v"),
-        done(2, "r 2 ok -"),
-        done(3, "r 3 ok =w"),
-        done(4, "r 4 ok -"),
+        (0, 1, &[], "r 1 ok =v"),
+        (0, 2, &[], "r 2 ok -"),
+        (0, 3, &[], "r 3 ok =w"),
+        (0, 4, &[], "r 4 ok -"),
     ],
     never: &["r 1 ok =w"],
 };
@@ -77,25 +62,10 @@ const STOPS: Story = Story {
     script: "nodes 2\nrecoverers 1\nclient s\ntx main put k1 v ; put k2 v ; put k3 v ; put k4 v ; put k5 v ; put k6 v ; put k7 v ; put k8 v ; put k9 v\nclient a\ntx main put k1 x ; put k5 x\nclient b\ntx main get k1 ; get k5\nstop 1 a 1 after\nschedule\nall s\ngo a\nrestart 1\nrecover 1 a\nall b\n",
     reads: "nodes 2\nclient r\ntx main get k1 ; get k5\nget main k9\n",
     found: &[
-        done(1, "r 2 ok =v"),
-        Told {
-            client: 1,
-            number: 1,
-            values: None,
-            line: "r 1 ok =x =x",
-        },
-        Told {
-            client: 2,
-            number: 1,
-            values: Some(&["v", "v"]),
-            line: "r 1 ok =v =v",
-        },
-        Told {
-            client: 2,
-            number: 1,
-            values: Some(&["x", "x"]),
-            line: "r 1 ok =x =x",
-        },
+        (0, 1, &[], "r 2 ok =v"),
+        (1, 1, &[], "r 1 ok =x =x"),
+        (2, 1, &["v", "v"], "r 1 ok =v =v"),
+        (2, 1, &["x", "x"], "r 1 ok =x =x"),
     ],
     never: &[
         "r 1 ok =x =v",
@@ -210,33 +180,37 @@ fn gives(reply: &Reply, values: &[&str]) -> bool {
     let Reply::Values { found } = reply else {
         return false;
     };
-    for (place, value) in values.iter().enumerate() {
-        match found.get(place) {
-            Some(found) if is_found(found, value) => {}
-            _ => return false,
+    let found = found.as_slice();
+    if found.len() != values.len() {
+        return false;
+    }
+    for (found, value) in found.iter().zip(values) {
+        if !is_found(found, value) {
+            return false;
         }
     }
     true
 }
 
-/// Whether this is what was told.
-fn is_told(told: &Told, reply: &Reply) -> bool {
-    match told.values {
-        Some(values) => gives(reply, values),
-        None => matches!(reply, Reply::Values { .. } | Reply::Made),
-    }
+/// Whether the operation was done, with these values where some are given.
+fn is_done(reply: &Reply, values: &[&str]) -> bool {
+    gives(reply, values) || values.is_empty() && matches!(reply, Reply::Values { .. } | Reply::Made)
 }
 
 /// Whether the entry tells it.
 fn tells(entry: &Entry, told: &Told) -> bool {
-    let What::Answered {
-        number,
-        answer: Answer::Replied { reply },
-    } = &entry.what
-    else {
-        return false;
-    };
-    *number == told.number && entry.client == Some(ClientNo(told.client)) && is_told(told, reply)
+    let (client, number, values, _line) = told;
+    match &entry.what {
+        What::Answered {
+            number: answered,
+            answer: Answer::Replied { reply },
+        } => {
+            *answered == *number
+                && entry.client == Some(ClientNo(*client))
+                && is_done(reply, values)
+        }
+        _ => false,
+    }
 }
 
 /// Whether a log tells it.
@@ -252,7 +226,7 @@ fn was_told(log: &Log, told: &Told) -> bool {
 /// Whether a report has the line of all that was told by this log.
 fn has_all_told(story: &Story, log: &Log, report: &str) -> bool {
     for told in story.found {
-        if was_told(log, told) && !has_line(report, told.line) {
+        if was_told(log, told) && !has_line(report, told.3) {
             return false;
         }
     }
