@@ -298,7 +298,7 @@ fn pages_on_no_path_are_refused(rt: HostRuntime) -> Result<(), Fail> {
     assert!(rt; are_answered(alloc, &mut scan)?);
     // A later leaf begins where the one before it ended.
     let wide = leaf(alloc, 0, b"k6", b"", &[b"k6"])?;
-    assert!(rt; refusal(alloc, &mut scan, wide)? == Some(ScanError::NoMemory));
+    assert!(rt; refusal(alloc, &mut scan, wide)? == Some(ScanError::BadPath { addr: at(0) }));
     assert!(rt; scan.key() == b"k7".as_slice());
     assert!(rt; refusal(alloc, &mut scan, page_at(alloc, 0, 3)?)? == None);
     assert!(rt; scan.next() == ScanStep::Ended);
