@@ -60,6 +60,26 @@ fn push_numbers(out: &mut Vec<u8>, word: &[u8], least: u64, greatest: u64) -> Re
     Ok(())
 }
 
+/// The summary of a script with so many clients and operations, where the values of versions come
+/// to these sums and nodes still list so many ids.
+fn text_of(
+    alloc: Global,
+    clients: u64,
+    operations: u64,
+    sums: &[u64],
+    listed: u64,
+) -> Result<Bytes, NoMemory>
+    ensures { IfOk result (λ text. text ≡ summary_text clients operations sums.now listed) }
+{
+    let mut out = Vec::new(alloc);
+    push_line(&mut out, b"clients", clients)?;
+    push_line(&mut out, b"operations", operations)?;
+    push_numbers(&mut out, b"sum", least_of(sums), greatest_of(sums))?;
+    push_line(&mut out, b"doubts", listed)?;
+    out.extend_from_slice(b"end\n")?;
+    Ok(Bytes::from_vec(out))
+}
+
 /// The summary of a run on a script with this history, which began at `start`, where nodes still
 /// list so many ids: how many clients and operations the script has, and the least and the greatest
 /// sum of the values of a version.
@@ -77,11 +97,11 @@ pub fn summary_of(
     let store = store_after(alloc, start, history)?;
     let sums = sums_of(alloc, &store)?;
     let clients = script.clients();
-    let mut out = Vec::new(alloc);
-    push_line(&mut out, b"clients", clients.len() as u64)?;
-    push_line(&mut out, b"operations", operations_of(clients))?;
-    push_numbers(&mut out, b"sum", least_of(&sums), greatest_of(&sums))?;
-    push_line(&mut out, b"doubts", listed)?;
-    out.extend_from_slice(b"end\n")?;
-    Ok(Bytes::from_vec(out))
+    text_of(
+        alloc,
+        clients.len() as u64,
+        operations_of(clients),
+        &sums,
+        listed,
+    )
 }

@@ -117,6 +117,10 @@ told_with l v = record {
   digest = pairs_digest v.pairs;
 }
 
+-- the count and the digest of the pairs of a version
+abbrev pub IsToldOf : ℕ → List ℕ → StoreVersion → Type 0
+IsToldOf count digest v = (count ≡ length v.pairs) × (digest ≡ pairs_digest v.pairs)
+
 abbrev pub version_told : Store → StoreVersion → VersionLine
 version_told store v = told_with (listed (heads_of store) v.head) v
 

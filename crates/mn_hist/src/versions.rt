@@ -1,6 +1,6 @@
 //! What is told of the versions of a store.
-ghost use Rattle.std.specs.Prelude.{◌≡◌, ◌<◌, IfOk, IsSomeAnd, length, slice_get};
-ghost use Rattle.mn_hist.specs.Audit.{told_with, versions_told};
+ghost use Rattle.std.specs.Prelude.{◌≡◌, ◌<◌, IfOk, IsSomeAnd, length, map, slice_get, take};
+ghost use Rattle.mn_hist.specs.Audit.{IsToldOf, told_with, version_told, versions_told};
 
 use mn_base::{NoMemory, TryCopy, Version, VersionNo};
 use mn_plain::Store;
@@ -29,23 +29,47 @@ fn pair_count(store: &Store, number: VersionNo) -> Result<u32, NoMemory>
     }
 }
 
-/// The line of a version, which is listed so.
+/// How many pairs a version has, and their digest, where these are the lines of those before it:
+/// what is told of a version with the same pairs isn't found again. NoMemory: there was no memory
+/// for it, or more pairs than are counted.
+fn pairs_told(
+    alloc: Global,
+    store: &Store,
+    number: VersionNo,
+    lines: &[VersionLine],
+) -> Result<(u32, [u8; 32]), NoMemory>
+    requires there { number.0 < length store.now }
+    requires lines { lines.now ≡ map (version_told store.now) (take number.0 store.now) }
+    ensures { IfOk result (λ told.
+        IsSomeAnd (slice_get store.now number.0) (IsToldOf told.0 told.1)) }
+{
+    if let Some(twin) = store.twin(number) {
+        let line = &lines[usize::from(twin.0)];
+        return Ok((line.count, line.digest));
+    }
+    Ok((pair_count(store, number)?, store.digest(alloc, number)?))
+}
+
+/// The line of a version, which is listed so, behind these.
 fn version_line(
     alloc: Global,
     store: &Store,
     number: VersionNo,
     version: &Version,
+    lines: &[VersionLine],
 ) -> Result<VersionLine, NoMemory>
-    requires { number.0 < length store.now }
+    requires there { number.0 < length store.now }
+    requires lines { lines.now ≡ map (version_told store.now) (take number.0 store.now) }
     ensures { IfOk result (λ line.
         IsSomeAnd (slice_get store.now number.0) (λ v. line ≡ told_with version.now v)) }
 {
+    let (count, digest) = pairs_told(alloc, store, number, lines)?;
     Ok(VersionLine {
         name: version.name.try_copy(alloc)?,
         parent: version.parent.try_copy(alloc)?,
         frozen: version.frozen,
-        count: pair_count(store, number)?,
-        digest: store.digest(alloc, number)?,
+        count,
+        digest,
     })
 }
 
@@ -57,7 +81,8 @@ pub fn versions_of(alloc: Global, store: &Store) -> Result<VersionLines, NoMemor
     let listing = store.listing(alloc)?;
     let mut lines = Vec::with_capacity(alloc, listing.as_slice().len())?;
     for (at, version) in listing.as_slice().iter().enumerate() {
-        lines.push(version_line(alloc, store, version_at(at)?, version)?)?;
+        let line = version_line(alloc, store, version_at(at)?, version, &lines)?;
+        lines.push(line)?;
     }
     Ok(VersionLines::from_vec(lines))
 }

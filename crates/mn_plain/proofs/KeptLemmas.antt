@@ -1,8 +1,7 @@
--- Versions found by name, and kept versions as versions of a store.
-use Rattle.std.proofs.Common.{◌≡◌, ◌<◌, ℕ, zero, suc, true, false, List, [], ◌∷◌, Some, None, refl, ap, sym, ◌∙◌, subst, bytes_eq, slice_get, set, length, get_or, add-one, arith}
-use Rattle.mn_base.specs.Store.{Store, StoreVersion, heads_of, head_named}
-use Rattle.mn_plain.specs.declared.version.Held.{Held}
-use Rattle.mn_plain.specs.Kept.{IsNamed, held_version, held_store}
+-- Versions found by name.
+use Rattle.std.proofs.Common.{◌≡◌, ℕ, zero, suc, true, false, List, [], ◌∷◌, Some, None, refl, ap, sym, ◌∙◌, subst, bytes_eq, ◌++◌, ◌+◌, slice_get, length, take, add-one, IsSomeAnd}
+use Rattle.mn_base.specs.Store.{Head, Store, StoreVersion, heads_of, head_named}
+use Rattle.mn_plain.specs.Kept.{IsNamed}
 
 -- at each place so far stands another name
 abbrev pub Passes : Store → List ℕ → ℕ → Type 0
@@ -41,29 +40,20 @@ pub no_version : (store : Store) (name : List ℕ) → Passes store name (length
 no_version [] name passed = refl
 no_version (v ∷ vs) name passed = let t = passed.0 in rw t (no_version vs name passed.1)
 
--- a kept version as a version of the store
-pub kept_at : (versions : List Held) (at : ℕ) (kept : Held) → at < length versions → kept ≡ get_or versions at kept → slice_get (held_store versions) at ≡ Some (held_version kept)
-kept_at [] at kept within is = absurd (omega arith)
-kept_at (k ∷ ks) zero kept within is = ap (λ (x : Held). Some (held_version x)) (sym is)
-kept_at (k ∷ ks) (suc at) kept within is = kept_at ks at kept (omega arith) is
+-- the version at a place that is there
+pub version_at : (store : Store) (at : ℕ) (P : StoreVersion → Type 0) → IsSomeAnd (slice_get store at) P → (v : StoreVersion) × (slice_get store at ≡ Some v) × P v
+version_at [] at P there = absurd there
+version_at (v ∷ vs) zero P there = (v, refl, there)
+version_at (v ∷ vs) (suc at) P there = version_at vs at P there
 
-pub set_kept : (versions : List Held) (at : ℕ) (kept : Held) → held_store (set versions at kept) ≡ set (held_store versions) at (held_version kept)
-set_kept [] at kept = refl
-set_kept (k ∷ ks) zero kept = refl
-set_kept (k ∷ ks) (suc at) kept = ap (λ (l : Store). held_version k ∷ l) (set_kept ks at kept)
+-- the head at that place
+pub head_at : (store : Store) (at : ℕ) (head : Head) → IsSomeAnd (slice_get store at) (λ v. v.head ≡ head) → slice_get (heads_of store) at ≡ Some head
+head_at [] at head there = absurd there
+head_at (v ∷ vs) zero head there = ap (λ (h : Head). Some h) there
+head_at (v ∷ vs) (suc at) head there = head_at vs at head there
 
-pub length-held_store : (versions : List Held) → length (held_store versions) ≡ length versions
-length-held_store [] = refl
-length-held_store (k ∷ ks) = ap (λ (n : ℕ). suc n) (length-held_store ks)
-
-pub within_store : (versions : List Held) (store : Store) (at : ℕ) → held_store versions ≡ store → at < length store → at < length versions
-within_store versions store at is within = let same = ap (λ (s : Store). length s) is in omega (arith, length-held_store versions, same)
-
--- one kept version changed is one version changed
-pub changed_is : (versions : List Held) (at : ℕ) (kept new : Held) (store : Store) (version : StoreVersion) (change : StoreVersion → StoreVersion)
-    → held_store versions ≡ store → at < length versions → kept ≡ get_or versions at kept → held_version new ≡ change (held_version kept) → slice_get store at ≡ Some version
-    → held_store (set versions at new) ≡ set store at (change version)
-changed_is versions at kept new store version change is within kept_is new_is there =
-    let old : Some (held_version kept) ≡ Some version = sym (kept_at versions at kept within kept_is) ∙ ap (λ (s : Store). slice_get s at) is ∙ there in
-    let same : held_version kept ≡ version = cc in
-    set_kept versions at new ∙ ap (λ (s : Store). set s at (held_version new)) is ∙ ap (λ (v : StoreVersion). set store at v) (new_is ∙ ap change same)
+-- the heads up to that place
+pub heads_more : (store : Store) (at : ℕ) (head : Head) → IsSomeAnd (slice_get store at) (λ v. v.head ≡ head) → take (at + 1) (heads_of store) ≡ take at (heads_of store) ++ head ∷ []
+heads_more [] at head there = absurd there
+heads_more (v ∷ vs) zero head there = ap (λ (h : Head). h ∷ []) there
+heads_more (v ∷ vs) (suc at) head there = ap (λ (n : ℕ). take n (heads_of (v ∷ vs))) (add-one (suc at)) ∙ ap (λ (l : List Head). v.head ∷ l) (ap (λ (n : ℕ). take n (heads_of vs)) (sym (add-one at)) ∙ heads_more vs at head there)

@@ -2,3 +2,4 @@ pub mod TableLemmas
 pub mod StepLemmas
 pub mod KeptLemmas
 pub mod ApplyLemmas
+pub mod Shared

@@ -1,13 +1,15 @@
 -- What a kept list of versions stands for, and the version of a name in it.
 use Rattle.std.specs.Prelude.{◌≡◌, ℕ, List, ◌∷◌, [], ◌++◌, Option, None, Some, false, map}
-use Rattle.std.specs.Prelude.{option_map, slice_get, set}
+use Rattle.std.specs.Prelude.{◌<◌, ◌+◌, ⊤, MatchOption, if◌then◌else◌, nat_eq, length}
+use Rattle.std.specs.Prelude.{option_map, slice_get, set, get_or}
+use Rattle.std.specs.List.{AllByRecursion}
 use Rattle.mn_base.specs.declared.reply.Pair.{Pair}
-use Rattle.mn_base.specs.Store.{Store, StoreVersion, heads_of, head_named, number_named}
+use Rattle.mn_base.specs.Store.{Store, StoreVersion, Head, heads_of, head_named, number_named}
 use Rattle.mn_base.specs.Store.{pairs_named, with_pairs, with_frozen, frozen_head}
 use Rattle.mn_plain.specs.declared.version.Kept.{Kept}
 use Rattle.mn_plain.specs.declared.version.Held.{Held}
 use Rattle.mn_plain.specs.declared.version.Place.{Place}
-use Rattle.mn_plain.specs.Table.{shown}
+use Rattle.mn_plain.specs.Table.{Table, shown}
 
 abbrev pub version_of : Kept → StoreVersion
 version_of k =
@@ -23,19 +25,48 @@ version_of k =
 abbrev pub store_of : List Kept → Store
 store_of versions = map version_of versions
 
-abbrev pub held_version : Held → StoreVersion
-held_version h =
+-- the pairs of the version with this number
+abbrev pub pairs_at : Store → ℕ → Option (List Pair)
+pairs_at store at = option_map (λ v. v.pairs) (slice_get store at)
+
+-- the pairs of each table
+abbrev pub all_shown : List Table → List (List Pair)
+all_shown tables = map (λ t. shown t.entries) tables
+
+abbrev pub held_head : Held → Head
+held_head h =
     record {
-      head = record {
-        name = h.name;
-        parent = option_map (λ p. p.0) h.parent;
-        frozen = h.frozen;
-      };
-      pairs = shown h.table.entries;
+      name = h.name;
+      parent = option_map (λ p. p.0) h.parent;
+      frozen = h.frozen;
     }
 
-abbrev pub held_store : List Held → Store
-held_store versions = map held_version versions
+-- a version with the pairs of its table, of which there are these
+abbrev pub held_version : List (List Pair) → Held → StoreVersion
+held_version tables h = record { head = held_head h; pairs = get_or tables h.table [] }
+
+abbrev pub held_store : List (List Pair) → List Held → Store
+held_store tables held = map (held_version tables) held
+
+-- each version's table is there
+abbrev pub AreHeld : List (List Pair) → List Held → Type 0
+AreHeld tables held = AllByRecursion (λ h. h.table < length tables) held
+
+-- how many versions have this table
+abbrev pub sharers : List Held → ℕ → ℕ
+sharers [] table = 0
+sharers (h ∷ held) table =
+    if nat_eq h.table table then sharers held table + 1 else sharers held table
+
+-- no other version has the table of the one with this number
+abbrev pub IsAlone : List Held → ℕ → Type 0
+IsAlone held at = MatchOption (slice_get held at) ⊥ (λ h. sharers held h.table < 2)
+
+-- the version with the first number, which is lower, has the pairs of the one with the second
+abbrev pub HasTwin : Store → ℕ → Option ℕ → Type 0
+HasTwin store at None = ⊤
+HasTwin store at (Some before) =
+    (before < at) × (pairs_at store before ≡ pairs_at store at)
 
 -- this version, of this number, is the one of this name
 pub record IsNamed (store : Store) (name : List ℕ) (at : ℕ) (version : StoreVersion) : Type 0 where

@@ -9,6 +9,7 @@ mod steps;
 mod store;
 mod table;
 mod version;
+mod versions;
 
 pub use digest::digest_of;
 pub use pairs::value_of;

@@ -1,4 +1,5 @@
-ghost use Rattle.std.specs.Prelude.{◌≡◌, ◌<◌, ◌&&◌, not, length, IfOk, IfNone, IsTrue, OnOk, OnErr};
+ghost use Rattle.std.specs.Prelude.{◌≡◌, ◌<◌, ◌&&◌, [], ◌∷◌, ◌++◌, not, length, IfOk, IfNone};
+ghost use Rattle.std.specs.Prelude.{IsTrue, OnOk, OnErr};
 ghost use Rattle.std.specs.Prelude.{IsSomeAnd, slice_get, option_map, option_and_then};
 ghost use Rattle.std.specs.List.{AllByRecursion};
 ghost use Rattle.mn_base.specs.Store.{applied, empty_store, main_store, heads_of, is_ascending};
@@ -6,14 +7,14 @@ ghost use Rattle.mn_base.specs.Store.{listed, listing_of, child_refusal, max_ver
 ghost use Rattle.mn_base.specs.Stores.{IsStore};
 ghost use Rattle.mn_plain.specs.Run.{Does, is_unmet_reply, pairs_after};
 ghost use Rattle.mn_plain.specs.Digest.{pairs_digest};
-ghost use Rattle.mn_plain.specs.Kept.{version_of, store_of, held_version, held_store};
-ghost use Rattle.mn_plain.specs.Kept.{IsPlace, SetsPairs, Freezes, AddsChild};
+ghost use Rattle.mn_plain.specs.Kept.{version_of, store_of, held_head, HasTwin, IsPlace};
 ghost use Rattle.mn_plain.specs.Table.{shown};
 
 use crate::digest::digest_of;
 use crate::steps::reply_to;
-use crate::table::{Table, copy_of, count_of, of_pairs, pairs_of, take_steps, within};
+use crate::table::{Table, count_of, of_pairs, pairs_of, within};
 use crate::version::{Held, Kept, Place};
+use crate::versions::Versions;
 use mn_base::{Key, Listing, Name, NoMemory, Op, Pairs, Reply, Steps, TryCopy, Version, VersionNo};
 use std::alloc::Global;
 use std::marker::Model;
@@ -25,27 +26,27 @@ pub const MAX_VERSIONS: usize = 64;
 /// names that differ. Contracts see the list that the rules of the store speak of.
 #[derive(Debug, Drop)]
 pub struct Store {
-    versions: Vec<Held>,
+    versions: Versions,
 }
 
 impl Model for Store {
     ghost use Rattle.std.specs.Prelude.{List};
     ghost use Rattle.mn_base.specs.Store.{StoreVersion};
     ghost use Rattle.mn_base.specs.Stores.{IsStore};
-    ghost use Rattle.mn_plain.specs.Kept.{held_store};
 
     ghost Value = { List StoreVersion };
 
-    ghost view = { λ s. held_store s.versions.items };
+    ghost view = { λ s. s.versions };
 
-    ghost invariant = { λ s. IsStore (held_store s.versions.items) };
+    ghost invariant = { λ s. IsStore s.versions };
 }
 
 /// Where the version of this name stands.
-fn place_of(versions: &[Held], name: &Name) -> Option<Place>
-    ensures { IsPlace (held_store versions.now) name.now result }
+fn place_of(versions: &Versions, name: &Name) -> Option<Place>
+    ensures { IsPlace versions.now name.now result }
 {
-    for (at, version) in versions.iter().enumerate() {
+    for at in 0..versions.len() {
+        let version = versions.at(at);
         if version.name.as_slice() == name.as_slice() {
             return Some(Place {
                 at,
@@ -57,22 +58,22 @@ fn place_of(versions: &[Held], name: &Name) -> Option<Place>
 }
 
 /// The name of a version.
-fn name_at(versions: &[Held], at: usize) -> Option<&Name>
+fn name_at(versions: &Versions, at: usize) -> Option<&Name>
     ensures { option_map (λ n. n.now) result
-        ≡ option_map (λ p. p.name) (slice_get (heads_of (held_store versions.now)) at) }
+        ≡ option_map (λ p. p.name) (slice_get (heads_of versions.now) at) }
 {
     if at < versions.len() {
-        Some(&versions[at].name)
+        Some(&versions.at(at).name)
     } else {
         None
     }
 }
 
 /// The name of a version's parent.
-fn parent_name(versions: &[Held], parent: Option<VersionNo>) -> Option<&Name>
+fn parent_name(versions: &Versions, parent: Option<VersionNo>) -> Option<&Name>
     ensures { option_map (λ n. n.now) result
         ≡ option_and_then (λ n. option_map (λ p. p.name)
-        (slice_get (heads_of (held_store versions.now)) n)) (option_map (λ n. n.0) parent) }
+        (slice_get (heads_of versions.now) n)) (option_map (λ n. n.0) parent) }
 {
     match parent {
         Some(number) => name_at(versions, usize::from(number.0)),
@@ -90,9 +91,9 @@ fn copy_of_name(alloc: Global, name: Option<&Name>) -> Result<Option<Name>, NoMe
 }
 
 /// What a listing says of a version among these.
-fn listed_of(alloc: Global, versions: &[Held], version: &Held) -> Result<Version, NoMemory>
+fn listed_of(alloc: Global, versions: &Versions, version: &Held) -> Result<Version, NoMemory>
     ensures { IfOk result (λ line. line
-        ≡ listed (heads_of (held_store versions.now)) (held_version version.now).head) }
+        ≡ listed (heads_of versions.now) (held_head version.now)) }
 {
     Ok(Version {
         name: version.name.try_copy(alloc)?,
@@ -118,65 +119,10 @@ fn is_without_effect(reply: &Reply, change: bool) -> bool
     }
 }
 
-/// The pairs of a version of these.
-fn table_of(versions: &[Held], at: usize) -> &Table
-    requires { at < length versions.now }
-    ensures { IsSomeAnd (slice_get (held_store versions.now) at)
-        (λ kept. shown result.now.entries ≡ kept.pairs) }
-{
-    &versions[at].table
-}
-
-/// Does the steps in a version of these.
-fn take_at(
-    alloc: Global,
-    versions: &mut Vec<Held>,
-    at: usize,
-    steps: &Steps,
-) -> Result<(), NoMemory>
-    requires { at < length versions.old.items }
-    ensures taken { OnOk result (SetsPairs (λ ps. pairs_after ps steps.now)
-        (held_store versions.old.items) at (held_store versions.new.items)) }
-    ensures kept { OnErr result (held_store versions.new.items ≡ held_store versions.old.items) }
-{
-    take_steps(alloc, &mut versions[at].table, steps.as_slice())
-}
-
-/// Freezes a version of these.
-fn freeze_at(versions: &mut Vec<Held>, at: usize)
-    requires { at < length versions.old.items }
-    ensures { Freezes (held_store versions.old.items) at (held_store versions.new.items) }
-{
-    versions[at].frozen = true;
-}
-
-/// Adds a writable child of a version of these, with the same pairs.
-fn add_child_of(
-    alloc: Global,
-    versions: &mut Vec<Held>,
-    at: usize,
-    child: &Name,
-) -> Result<(), NoMemory>
-    requires there { at < length versions.old.items }
-    requires room { length versions.old.items < max_versions }
-    ensures added { OnOk result (AddsChild (held_store versions.old.items) at child.now
-        (held_store versions.new.items)) }
-    ensures kept { OnErr result (held_store versions.new.items ≡ held_store versions.old.items) }
-{
-    let held = Held {
-        name: child.try_copy(alloc)?,
-        parent: Some(VersionNo(at as u8)),
-        frozen: false,
-        table: copy_of(alloc, table_of(versions, at))?,
-    };
-    versions.push(held)?;
-    Ok(())
-}
-
-/// A version as the store holds it. Its pairs stand in order of key.
-fn held_of(alloc: Global, version: Kept) -> Result<Held, NoMemory>
+/// Adds a version. Its pairs stand in order of key.
+fn push_kept(alloc: Global, versions: &mut Versions, version: Kept) -> Result<(), NoMemory>
     requires { IsTrue (is_ascending version.pairs) }
-    ensures { IfOk result (λ held. held_version held ≡ version_of version) }
+    ensures { OnOk result (versions.new ≡ versions.old ++ version_of version ∷ []) }
 {
     let Kept {
         name,
@@ -185,40 +131,19 @@ fn held_of(alloc: Global, version: Kept) -> Result<Held, NoMemory>
         pairs,
     } = version;
     let table = of_pairs(alloc, pairs.into_vec())?;
-    Ok(Held {
-        name,
-        parent,
-        frozen,
-        table,
-    })
+    versions.push(name, parent, frozen, table)
 }
 
 /// The versions as the store holds them. The pairs of each stand in order of key.
-fn all_held(alloc: Global, versions: Vec<Kept>) -> Result<Vec<Held>, NoMemory>
+fn all_held(alloc: Global, versions: Vec<Kept>) -> Result<Versions, NoMemory>
     requires { AllByRecursion (λ v. IsTrue (is_ascending v.pairs)) (store_of versions.items) }
-    ensures { IfOk result (λ held. held_store held.items ≡ store_of versions.items) }
+    ensures { IfOk result (λ held. held ≡ store_of versions.items) }
 {
-    let mut held = Vec::new(alloc);
+    let mut held = Versions::new(alloc);
     for version in versions {
-        held.push(held_of(alloc, version)?)?;
+        push_kept(alloc, &mut held, version)?;
     }
     Ok(held)
-}
-
-/// Copies of these versions.
-fn held_copies(alloc: Global, versions: &[Held]) -> Result<Vec<Held>, NoMemory>
-    ensures { IfOk result (λ copies. held_store copies.items ≡ held_store versions.now) }
-{
-    let mut copies = Vec::new(alloc);
-    for version in versions {
-        copies.push(Held {
-            name: version.name.try_copy(alloc)?,
-            parent: version.parent,
-            frozen: version.frozen,
-            table: copy_of(alloc, &version.table)?,
-        })?;
-    }
-    Ok(copies)
 }
 
 impl Store {
@@ -239,13 +164,8 @@ impl Store {
         let Ok(name) = Name::new(alloc, b"main") else {
             return Err(NoMemory);
         };
-        let mut versions = Vec::new(alloc);
-        versions.push(Held {
-            name,
-            parent: None,
-            frozen: false,
-            table: of_pairs(alloc, pairs.into_vec())?,
-        })?;
+        let mut versions = Versions::new(alloc);
+        versions.push(name, None, false, of_pairs(alloc, pairs.into_vec())?)?;
         Ok(Store { versions })
     }
 
@@ -297,7 +217,7 @@ impl Store {
         ensures { IsSomeAnd (slice_get self.now at)
             (λ kept. shown result.now.entries ≡ kept.pairs) }
     {
-        table_of(&self.versions, at)
+        self.versions.table(at)
     }
 
     /// Why no version of this name can be made.
@@ -328,7 +248,7 @@ impl Store {
         if is_without_effect(&reply, change) {
             return Ok(reply);
         }
-        take_at(alloc, &mut self.versions, place.at, steps)?;
+        self.versions.take(alloc, place.at, steps)?;
         Ok(reply)
     }
 
@@ -344,8 +264,8 @@ impl Store {
         if let Some(refusal) = self.child_refusal(child) {
             return Ok(refusal);
         }
-        add_child_of(alloc, &mut self.versions, place.at, child)?;
-        freeze_at(&mut self.versions, place.at);
+        self.versions.push_child(alloc, place.at, child)?;
+        self.versions.freeze(place.at);
         Ok(Reply::Made)
     }
 
@@ -361,7 +281,7 @@ impl Store {
         if let Some(refusal) = self.child_refusal(child) {
             return Ok(refusal);
         }
-        add_child_of(alloc, &mut self.versions, place.at, child)?;
+        self.versions.push_child(alloc, place.at, child)?;
         Ok(Reply::Made)
     }
 
@@ -392,9 +312,9 @@ impl Store {
         ensures { IfOk result (λ listing. listing ≡ listing_of (heads_of self.now)) }
     {
         let versions = &self.versions;
-        let mut lines = Vec::new(alloc);
-        for version in versions {
-            lines.push(listed_of(alloc, versions, version)?)?;
+        let mut lines = Vec::with_capacity(alloc, versions.len())?;
+        for at in 0..versions.len() {
+            lines.push(listed_of(alloc, versions, versions.at(at))?)?;
         }
         Ok(Listing::from_vec(lines))
     }
@@ -409,6 +329,16 @@ impl Store {
     {
         let pairs = pairs_of(alloc, self.table_at(usize::from(version.0)))?;
         Ok(Pairs::from_vec(pairs))
+    }
+
+    /// The first version that shares its pairs with one that is there, if it stands before it: what
+    /// is told of its pairs need not be found again.
+    pub fn twin(&self, version: VersionNo) -> Option<VersionNo>
+        requires { version.0 < length self.now }
+        ensures { HasTwin self.now version.0 (option_map (λ v. v.0) result) }
+    {
+        let at = self.versions.twin(usize::from(version.0))?;
+        Some(VersionNo(at as u8))
     }
 
     /// How many pairs a version has that is there.
@@ -435,7 +365,7 @@ impl Store {
 impl TryCopy for Store {
     fn try_copy(&self, alloc: Global) -> Result<Self, NoMemory> {
         Ok(Store {
-            versions: held_copies(alloc, &self.versions)?,
+            versions: self.versions.try_copy(alloc)?,
         })
     }
 }

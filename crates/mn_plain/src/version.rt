@@ -1,4 +1,3 @@
-use crate::table::Table;
 use mn_base::{Name, Pairs, VersionNo};
 
 /// A version: its name, its parent's number or none, whether it is frozen, and its pairs in order
@@ -11,13 +10,13 @@ pub struct Kept {
     pub pairs: Pairs,
 }
 
-/// A version as the store holds it.
+/// A version as the store holds it. `table` is the number of the table with its pairs.
 #[derive(Debug, Drop)]
 pub struct Held {
     pub name: Name,
     pub parent: Option<VersionNo>,
     pub frozen: bool,
-    pub table: Table,
+    pub table: usize,
 }
 
 /// Where a version stands, and whether it is frozen.
