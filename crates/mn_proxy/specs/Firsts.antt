@@ -8,6 +8,7 @@ use Rattle.mn_work.specs.declared.known.Known.{Known}
 use Rattle.mn_work.specs.declared.next.Next.{Next}
 use Rattle.mn_work.specs.declared.next.Taken.{Taken}
 use Rattle.mn_work.specs.declared.work.Work.{Work}
+use Rattle.mn_work.specs.Cached.{AreUsed}
 use Rattle.mn_work.specs.Knows.{KeepsKnown}
 use Rattle.mn_work.specs.Works.{WantsNext}
 use Rattle.mn_proxy.specs.declared.errand.Errand.{Errand}
@@ -24,11 +25,11 @@ abbrev pub IsSecond : Turn → Type 0
 IsSecond (turns.Goes step work errand) = work.failed ≡ 1
 IsSecond turn = ⊥
 
--- by what is kept it fails
+-- by what is kept it fails, of which some pages may be used
 abbrev pub FailsAsKept : Known → Work → Type 0
 FailsAsKept known w =
     (new : Known) × (after : Work) × (cause : Option Busy) × KeepsKnown known new
-    × WantsNext new w after (Next.Fails cause)
+    × AreUsed known.cache new.cache × WantsNext new w after (Next.Fails cause)
 
 -- what was read fails it, or leaves it so that it fails by what is kept
 abbrev pub FailsAfter : Known → Work → Taken → Type 0

@@ -111,6 +111,15 @@ walks_none later before after walks = by walks.leaves
     by (inl same) = subst (AreUsed before) (sym same) walks.are_used
     by (inr (late, same)) = subst (AreUsed before) (sym same) walks.are_used
 
+-- in a first try none leaves
+pub walks_first : (later : Bool) (next : Option Next) (before after : List (Addr × Page)) → later ≡ false
+    → Walks later next before after → AreUsed before after
+walks_first later next before after first walks = by walks.leaves
+  where
+    by : ((after ≡ walks.used) ⊎ ((later ≡ true) × (after ≡ without_next next walks.used))) → AreUsed before after
+    by (inl same) = subst (AreUsed before) (sym same) walks.are_used
+    by (inr (late, same)) = absurd cc
+
 -- Pages that were read
 
 -- a leaf isn't put in

@@ -5,6 +5,7 @@ pub mod Cached
 pub mod Children
 pub mod Compares
 pub mod Descents
+pub mod Firsts
 pub mod Getting
 pub mod Last
 pub mod Lasting

@@ -78,7 +78,7 @@ used_keep a before after used = ap (page_at a) used.after_is ∙ all_keep a used
 
 -- Walks
 
-walks_still : (entries : List CatEntry) (before after : List (Addr × Page)) (key : List ℕ) (d : Descent)
+pub walks_still : (entries : List CatEntry) (before after : List (Addr × Page)) (key : List ℕ) (d : Descent)
     (pages : List Page) (leaf : Descent) → AreUsed before after → WalksDown entries before key d pages leaf
     → WalksDown entries after key d pages leaf
 walks_still entries before after key d [] leaf used walks = walks
@@ -105,15 +105,40 @@ leads_still before after key d leaf nodes catalog used leads = record {
   there = subst (λ (n : ℕ). leaf.addr.node.0 < n) (sym nodes) leads.there;
 }
 
--- the heights of a page that it goes on at
+-- the heights of a page that a walk goes on at
+pub stands_by : (parents : List (Option ℕ)) (v : ℕ) (key : List ℕ) (above : Option ℕ) (page : Page)
+    → is_on_path parents v key above (front_of page) ≡ true
+    → (is_below above (height_of page.body) ≡ true) × (nat_le (height_of page.body) max_height ≡ true)
+stands_by parents v key above page on =
+    let parts = both_parts (is_live parents v page.made.0 page.copied)
+    (covers_key page.low page.high key && may_stand above (height_of page.body)) on in
+    let rest = both_parts (covers_key page.low page.high key) (may_stand above (height_of page.body)) parts.1 in
+    both_parts (is_below above (height_of page.body)) (nat_le (height_of page.body) max_height) rest.1
+
 stands : (entries : List CatEntry) (d : Descent) (key : List ℕ) (page : Page)
     → is_on_way entries d key (front_of page) ≡ true
     → (is_below d.above (height_of page.body) ≡ true) × (nat_le (height_of page.body) max_height ≡ true)
-stands entries d key page on =
-    let parts = both_parts (is_live (parents_of (heads_in entries)) d.version.0 page.made.0 page.copied)
-    (covers_key page.low page.high key && may_stand d.above (height_of page.body)) on in
-    let rest = both_parts (covers_key page.low page.high key) (may_stand d.above (height_of page.body)) parts.1 in
-    both_parts (is_below d.above (height_of page.body)) (nat_le (height_of page.body) max_height) rest.1
+stands entries d key page on = stands_by (parents_of (heads_in entries)) d.version.0 key d.above page on
+
+-- so it is lower than the one before
+pub lower_by : (above : Option ℕ) (height : ℕ) → is_below above height ≡ true → nat_le height max_height ≡ true
+    → IsLower above (Some height)
+lower_by above height below low = (grind (arith, nat_tests), under above below)
+  where
+    under : (o : Option ℕ) → is_below o height ≡ true → MatchOption o ⊤ (λ a. height + 1 ≡ a)
+    under None e = tt
+    under (Some a) e = eqb-true (height + 1) a e
+
+lower_in : (d : Descent) (key : List ℕ) (body : Body) → 1 ≤ height_of body → is_below d.above (height_of body) ≡ true
+    → nat_le (height_of body) max_height ≡ true → IsLower d.above (gone_below d body key).above
+lower_in d key (Leaf pairs) some below low = absurd (omega arith)
+lower_in d key (Inner height first rest) some below low = lower_by d.above height below low
+
+pub goes_lower : (entries : List CatEntry) (d : Descent) (key : List ℕ) (page : Page) → 1 ≤ height_of page.body
+    → is_on_way entries d key (front_of page) ≡ true → IsLower d.above (gone_below d page.body key).above
+goes_lower entries d key page high on =
+    let stand = stands entries d key page on in
+    lower_in d key page.body high stand.0 stand.1
 
 -- below a page of height 1 the walk has come to its leaf
 pub low_leaf : (known : Known) (key : List ℕ) (d leaf : Descent) → ArePages known.cache → d.above ≡ Some 1
@@ -156,21 +181,11 @@ some_leads known key d leaf page entries are high some catalog leads = by leads.
     never (inl low) = high low
     never (inr (root, none)) = let both : Some page ≡ None = sym some ∙ none in absurd cc
 
-    lower : (body : Body) → 1 ≤ height_of body → is_below d.above (height_of body) ≡ true
-        → nat_le (height_of body) max_height ≡ true → IsLower d.above (gone_below d body key).above
-    lower (Leaf pairs) some below low = absurd (omega arith)
-    lower (Inner height first rest) some below low = (grind (arith, nat_tests), under d.above below)
-      where
-        under : (above : Option ℕ) → is_below above height ≡ true → MatchOption above ⊤ (λ a. height + 1 ≡ a)
-        under None e = tt
-        under (Some a) e = eqb-true (height + 1) a e
-
     by : (pages : List Page) → WalksDown leads.entries known.cache key d pages leaf → Leads known key d leaf page entries
     by [] walks = absurd (never (subst (IsAtLeaf known.cache) walks leads.at))
     by (p ∷ pages) walks =
         let same : p ≡ page = (let both : Some p ≡ Some page = sym walks.0 ∙ some in cc) in
         let on : is_on_way leads.entries d key (front_of page) ≡ true = subst (λ (q : Page). is_on_way leads.entries d key (front_of q) ≡ true) same walks.1 in
-        let stand = stands leads.entries d key page on in
         record {
           on = subst (λ (l : List CatEntry). is_on_way l d key (front_of page) ≡ true) same_entries on;
           leads = record {
@@ -181,7 +196,7 @@ some_leads known key d leaf page entries are high some catalog leads = by leads.
             at = leads.at;
             there = leads.there;
           };
-          lower = lower page.body (found d.addr known.cache page are some).1 stand.0 stand.1;
+          lower = goes_lower leads.entries d key page (found d.addr known.cache page are some).1 on;
         }
 
 -- Levels

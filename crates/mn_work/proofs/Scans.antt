@@ -1,10 +1,12 @@
 -- How a scan stands once it has taken a page.
-use Rattle.std.proofs.Common.{◌≡◌, ℕ, ◌≤◌, List, Option, refl, arith}
+use Rattle.std.proofs.Common.{◌≡◌, ℕ, ◌≤◌, Bool, true, false, List, Option, refl, arith}
+use Rattle.std.specs.Prelude.{if◌then◌else◌}
 use Rattle.mn_page.specs.declared.page.Body.{Body}
 use Rattle.mn_page.specs.declared.page.Body.TheVariants.{Leaf, Inner}
 use Rattle.mn_page.specs.declared.page.Page.{Page}
 use Rattle.mn_page.specs.Grammar.{IsBody, IsPage, height_of}
-use Rattle.mn_scan.specs.Scan.{ScanState, fed, fed_body}
+use Rattle.mn_scan.specs.Scan.{IsNeeded, ScanState, fed, fed_body, may_be_leaf, step_of}
+use Rattle.mn_scan.specs.declared.step.ScanStep.TheVariants.{Need, Ended}
 use Rattle.mn_base.specs.declared.ids.Addr.{Addr}
 use Rattle.mn_page.specs.declared.entry.CatEntry.{CatEntry}
 use Rattle.mn_work.specs.declared.next.Taken.{Taken}
@@ -41,6 +43,14 @@ stays_alike catalog name before after addr page TheLeaf high takes stays =
     let low = takes.2 in absurd (omega arith)
 stays_alike catalog name before after addr page (Replies reply) high takes stays = stays
 stays_alike catalog name before after addr page (Fails cause) high takes stays = stays
+
+-- the page that it needs stands where it tells
+pub needs_at : (s : ScanState) (addr : Addr) (leaf : Bool) → Need addr leaf ≡ step_of s → IsNeeded s addr
+needs_at s addr leaf needs = by s.ended refl needs
+  where
+    by : (ended : Bool) → s.ended ≡ ended → Need addr leaf ≡ (if ended then Ended else Need s.needed (may_be_leaf s.above)) → IsNeeded s addr
+    by true is e = absurd cc
+    by false is e = (is, (let same : s.needed ≡ addr = cc in same))
 
 -- it isn't missing
 pub not_missing : (taken : Taken) → passage_of taken ≡ Missing → ⊥

@@ -57,6 +57,8 @@ use Rattle.mn_work.specs.Scans as scans
 use Rattle.mn_work.specs.Walks.{Admits, IsAbove, is_later}
 use Rattle.mn_work.specs.Works.{AsksCount, AsksCountFor, AsksPage, AsksPageFor, BeginsJob, BeginsBy, BeginsOn, GetTakes, GoesOnBy, GoesOnFrom, MayStart, version_name}
 use Rattle.mn_work.specs.Works.{HasRightSteps, IsJobIn, IsJobOf, IsNewChild, IsStartable, IsToAsk, JobCounts}
+use Rattle.mn_work.specs.Works.{FailsFirst, JobFails, WantsSo}
+use Rattle.mn_work.specs.Firsts.{ChildFailsFirst, GetFailsFirst, ScanFailsFirst, StepsFailFirst}
 use Rattle.mn_work.specs.Works.{JobTakes, JobWants, KeepsOp, StartsBy, StartsOn, TakesCatalog, TakesCountBytes, TakesPageBytes}
 use Rattle.mn_work.specs.Works.{WantsFrom, WantsNext, counts_of, lacks_catalog, lacks_for, lone_key, retried, retried_job}
 
@@ -1063,3 +1065,44 @@ pub get_asks : (known : Known) (op : Op) (job : Job) (name : List ℕ) (steps : 
 get_asks known op job name steps d addr is from asks =
     subst (λ (j : Job). AsksPageFor known (Tx name steps) j addr) from
     (subst (λ (o : Op). AsksPageFor known o job addr) is asks)
+
+-- Why a first try fails
+
+module _ (known : Known) (job : Job) (op : Op) (next : Next) where
+  pub get_fails : (name : List ℕ) (steps : List Step) (d e : Descent) (key : List ℕ) → job ≡ at.Get d → op ≡ Tx name steps
+      → lone_key steps ≡ Some key → GetFailsFirst known key d e next → JobFails known job (at.Get e) op next
+  get_fails name steps d e key from is lone fails =
+      subst (λ (j : Job). JobFails known j (at.Get e) op next) (sym from)
+      (subst (λ (o : Op). JobFails known (at.Get d) (at.Get e) o next) (sym is)
+      (subst (λ (o : Option (List ℕ)). MatchOption o ⊥ (λ k. GetFailsFirst known k d e next)) (sym lone) fails))
+
+  pub steps_fail_in : (name : List ℕ) (steps : List Step) (a b : Attempt) → job ≡ at.Transaction a → op ≡ Tx name steps
+      → StepsFailFirst known steps a b next → JobFails known job (at.Transaction b) op next
+  steps_fail_in name steps a b from is fails =
+      subst (λ (j : Job). JobFails known j (at.Transaction b) op next) (sym from)
+      (subst (λ (o : Op). JobFails known (at.Transaction a) (at.Transaction b) o next) (sym is) fails)
+
+  pub child_fails : (c d : Child) → job ≡ at.Child c → ChildFailsFirst known op c d next
+      → JobFails known job (at.Child d) op next
+  child_fails c d from fails = subst (λ (j : Job). JobFails known j (at.Child d) op next) (sym from) fails
+
+  pub scan_fails : (name : List ℕ) (low high : Option (List ℕ)) (limit : ℕ) (s t : ScanState) → job ≡ at.Scan s
+      → op ≡ Scan name low high limit → ScanFailsFirst known name s (Some next)
+      → JobFails known job (at.Scan t) op next
+  scan_fails name low high limit s t from is fails =
+      subst (λ (j : Job). JobFails known j (at.Scan t) op next) (sym from)
+      (subst (λ (o : Op). JobFails known (at.Scan s) (at.Scan t) o next) (sym is) fails)
+
+  -- a scan that has ended doesn't
+  pub scan_ends : (s : ScanState) (after : Job) → job ≡ at.Scan s → after ≡ at.Start → JobFails known job after op next
+  scan_ends s after from is =
+      subst (λ (j : Job). JobFails known j after op next) (sym from)
+      (subst (λ (j : Job). JobFails known (at.Scan s) j op next) (sym is) tt)
+
+-- what its job wants, and why a first try fails
+pub goes_so : (known : Known) (before after : Work) (result : Result Next NoMemory)
+    → IfOk result (WantsSo known before after)
+    → (is_later before.failed ≡ false → IfOk result (FailsFirst known before after))
+    → IfOk result (GoesOnBy known before after)
+goes_so known before after (Ok next) wants first = (wants.0, wants.1, first)
+goes_so known before after (Err none) wants first = tt

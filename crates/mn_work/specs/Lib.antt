@@ -7,6 +7,7 @@ pub mod Catalogs
 pub mod Children
 pub mod Counts
 pub mod Descents
+pub mod Firsts
 pub mod Knows
 pub mod Last
 pub mod Lent

@@ -36,7 +36,8 @@ goes_by_kept catalog name s page =
 abbrev pub WalksAlike : ScanState → ScanState → Type 0
 WalksAlike before after = restarted after ≡ restarted before
 
--- what a page that it needs makes of it, by the kept catalog and by its own
+-- what a page that it needs makes of it, by the kept catalog and by its own, of which no fault is
+-- told
 abbrev pub TakesPage : Option (List CatEntry) → List ℕ → ScanState → Addr → Page → ScanState → Taken
     → Type 0
 TakesPage catalog name before addr page after Taken.GoesOn =
@@ -46,7 +47,9 @@ TakesPage catalog name before addr page after Taken.Leaf =
     (goes_by_kept catalog name before page ≡ true) × (fits before page ≡ true)
     × (height_of page.body ≡ 0) × IsInTurn before page × (after ≡ fed before page)
 TakesPage catalog name before addr page after (Taken.Replies reply) = ⊥
-TakesPage catalog name before addr page after (Taken.Fails None) = ⊤
+TakesPage catalog name before addr page after (Taken.Fails None) =
+    (goes_by_kept catalog name before page ≡ true)
+    × ((fits before page ≡ false) ⊎ (IsInTurn before page → ⊥))
 TakesPage catalog name before addr page after (Taken.Fails (Some cause)) =
     (goes_by_kept catalog name before page ≡ false) × (cause ≡ Path addr page.seq)
 

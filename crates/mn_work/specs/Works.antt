@@ -36,6 +36,7 @@ use Rattle.mn_work.specs.Attempts as attempts
 use Rattle.mn_work.specs.Catalogs.{SpellsNoVersions, SpellsVersions}
 use Rattle.mn_work.specs.Children as children
 use Rattle.mn_work.specs.Descents as descents
+use Rattle.mn_work.specs.Firsts as firsts
 use Rattle.mn_work.specs.Knows as knows
 use Rattle.mn_work.specs.Last.{AreReadAs, CacheIsLast, PagesAreLast, RootIsLast}
 use Rattle.mn_work.specs.Scans as scans
@@ -259,10 +260,34 @@ MakesPlan known w reply mini =
     MatchOption known.catalog ⊥
     (λ entries. IsPlanOfJob known.nodes entries w.op w.job reply mini)
 
+-- why a first try fails, by cases on what the job was and is; a scan that has ended fails by none
+abbrev pub JobFails : Known → Job → Job → Op → Next → Type 0
+JobFails known (at.Get d) (at.Get e) (Tx name steps) next =
+    MatchOption (lone_key steps) ⊥ (λ key. firsts.GetFailsFirst known key d e next)
+JobFails known (at.Transaction a) (at.Transaction b) (Tx name steps) next =
+    firsts.StepsFailFirst known steps a b next
+JobFails known (at.Child c) (at.Child d) op next = firsts.ChildFailsFirst known op c d next
+JobFails known (at.Scan s) (at.Scan t) (Scan name low high limit) next =
+    firsts.ScanFailsFirst known name s (Some next)
+JobFails known (at.Scan s) at.Start op next = ⊤
+JobFails known before after op next = ⊥
+
+-- why a first try of an operation fails
+abbrev pub FailsFirst : Known → Work → Work → Next → Type 0
+FailsFirst known before after next = JobFails known before.job after.job before.op next
+
+-- what its job wants
+abbrev pub WantsSo : Known → Work → Work → Next → Type 0
+WantsSo known before after next =
+    (after.spoiled ≡ before.spoiled)
+    × JobWants known (is_later before.failed) before.op before.job after.job next
+
+-- the same; and a first try fails only so
 abbrev pub GoesOnBy : Known → Work → Work → Next → Type 0
 GoesOnBy known before after next =
     (after.spoiled ≡ before.spoiled)
     × JobWants known (is_later before.failed) before.op before.job after.job next
+    × (is_later before.failed ≡ false → FailsFirst known before after next)
 
 -- it begins on the kept catalog, which is enough for it
 pub record BeginsBy (known : Known) (before begun : Work) : Type 0 where

@@ -16,6 +16,8 @@ ghost use Rattle.mn_work.specs.Attempts.{SameButCounts, SameButFound, StaysLast,
 ghost use Rattle.mn_work.specs.Attempts.{TakesRead};
 ghost use Rattle.mn_work.specs.Attempts.{WantsNext, was_read};
 ghost use Rattle.mn_work.specs.Cached.{AreUsed, Puts, Walks, next_at, next_of, next_then};
+ghost use Rattle.mn_work.specs.Firsts.{CameKept, FailsOnWay, ReachesFirst};
+ghost use Rattle.mn_work.specs.Firsts.{RunFailsAsKept, RunFailsOnWay, StepsFailFirst};
 ghost use Rattle.mn_work.specs.Knows.{ArePages, KeepsKnown};
 ghost use Rattle.mn_work.specs.Last.{AreReadAs};
 ghost use Rattle.mn_work.specs.declared.next.Taken.TheVariants as taken;
@@ -187,6 +189,8 @@ impl Attempt {
         ensures later { later ≡ true → self.new.pages ≡ self.old.pages }
         ensures last { OnOk result (StaysLast known.old.cache self.old self.new) }
         ensures wants { IfOk result (WantsNext known.new later steps.now self.new) }
+        ensures first { later ≡ false
+            → IfOk result (StepsFailFirst known.new steps.now self.old self.new) }
     {
         let all = steps.as_slice();
         while self.done < all.len() {
@@ -218,6 +222,9 @@ impl Attempt {
         ensures last { OnOk result (StaysLast known.old.cache self.old self.new) }
         ensures ran { IfOk result (RunsOn known.new later steps.now self.new) }
         ensures further { IfOk result (RunsFurther self.old self.new) }
+        ensures came { later ≡ false
+            → OnOk result (CameKept known.new.cache self.old self.new) }
+        ensures first { later ≡ false → IfOk result (RunFailsAsKept known.new steps.now self.new) }
     {
         mn_tree::moves_take_steps();
         for _level in 0..LEVELS {
@@ -255,6 +262,7 @@ impl Attempt {
         ensures ran { IfOk result (RunsOn known.now later steps.now self.new) }
         ensures further { IfOk result (RunsFurther self.old self.new) }
         ensures fails { IfOk result (λ next. NamesNoPage next) }
+        ensures way { IfOk result (RunFailsOnWay known.now steps.now self.new) }
     {
         mn_tree::moves_take_steps();
         match answer {
@@ -310,6 +318,8 @@ impl Attempt {
         ensures done { self.new.done ≡ self.old.done }
         ensures inner { IfOk result (ComesInner addr self.old self.new) }
         ensures reached { IfOk result (ReachesOn known.new later steps.now addr self.new) }
+        ensures came { OnOk result (CameKept known.new.cache self.old self.new) }
+        ensures first { later ≡ false → IfOk result (ReachesFirst known.new steps.now self.new) }
     {
         if !known.has_node(addr) {
             return Ok(Reached::Unfit);
@@ -341,6 +351,8 @@ impl Attempt {
         ensures done { self.new.done ≡ self.old.done }
         ensures inner { IfOk result (ComesInner addr self.old self.new) }
         ensures reached { IfOk result (ReachesOn known.new false steps.now addr self.new) }
+        ensures came { OnOk result (CameKept known.new.cache self.old self.new) }
+        ensures first { IfOk result (ReachesFirst known.new steps.now self.new) }
     {
         pages_are_known();
         let Some(kept) = known.kept_page(alloc, addr)? else {
@@ -452,7 +464,8 @@ impl Attempt {
     ) -> Result<Next, NoMemory>
         requires nodes { known.now.nodes ≤ 8 }
         requires unmet { HasUnmet known.now steps.now self.now found }
-        ensures { IfOk result (WantsNext known.now later steps.now self.now) }
+        ensures wants { IfOk result (WantsNext known.now later steps.now self.now) }
+        ensures way { IfOk result (FailsOnWay known.now steps.now self.now) }
     {
         let Some(kept) = &known.catalog else {
             unreachable!();
@@ -483,6 +496,7 @@ impl Attempt {
         ensures counts { self.new.counts ≡ self.old.counts }
         ensures pages { self.new.pages ≡ self.old.pages }
         ensures way { IfOk result (StaysOnItsWay known.now steps.now self.new) }
+        ensures fails { IfOk result (FailsOnWay known.now steps.now self.new) }
         ensures wants { IfOk result (WantsNext known.now later steps.now self.new) }
     {
         let need = self.overlay.new_pages();
@@ -531,6 +545,7 @@ impl Attempt {
         ensures counts { self.new.counts ≡ self.old.counts }
         ensures pages { self.new.pages ≡ self.old.pages }
         ensures way { IfOk result (StaysOnItsWay known.now steps.now self.new) }
+        ensures fails { IfOk result (FailsOnWay known.now steps.now self.new) }
         ensures wants { IfOk result (WantsNext known.now later steps.now self.new) }
     {
         mn_tree::moves_are_met();

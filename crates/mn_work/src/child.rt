@@ -9,6 +9,7 @@ ghost use Rattle.mn_work.specs.Children.{CountsOn, DoesChild, HasRead, IsOnItsWa
 ghost use Rattle.mn_work.specs.Children.{KeepsTry, MayPlan, RefusesChild, SameButCounts};
 ghost use Rattle.mn_work.specs.Children.{StaysLast, StaysOnItsWay, TakesRoot, TakesRootBytes};
 ghost use Rattle.mn_work.specs.Children.{WantsEnd, WantsNext, WantsRoot, failing, may_copy_by};
+ghost use Rattle.mn_work.specs.Firsts.{ChildFailsFirst, EndsFirst, ReachesRoot};
 ghost use Rattle.mn_work.specs.Knows.{ArePages, KeepsKnown};
 
 use crate::counts::take_count;
@@ -190,6 +191,8 @@ impl Child {
         ensures later { later ≡ true → self.new ≡ self.old }
         ensures last { OnOk result (StaysLast known.old.cache self.old self.new) }
         ensures wants { IfOk result (WantsNext known.new later op.now self.new) }
+        ensures first { later ≡ false
+            → IfOk result (ChildFailsFirst known.new op.now self.old self.new) }
     {
         if self.page.is_some() {
             return self.go_on(alloc, known, op, later);
@@ -205,7 +208,8 @@ impl Child {
         requires nodes { (1 ≤ known.now.nodes) × (known.now.nodes ≤ 8) }
         requires way { IsOnItsWay known.now op.now self.now }
         requires page { self.now.page ≢ None }
-        ensures { IfOk result (WantsNext known.now later op.now self.now) }
+        ensures wants { IfOk result (WantsNext known.now later op.now self.now) }
+        ensures first { later ≡ false → IfOk result (EndsFirst known.now op.now self.now) }
     {
         if self.counts.len() < usize::from(known.nodes) {
             return Ok(Next::Count {
@@ -231,6 +235,7 @@ impl Child {
         ensures later { later ≡ true → self.new ≡ self.old }
         ensures last { OnOk result (StaysLast known.old.cache self.old self.new) }
         ensures wants { IfOk result (WantsRoot known.old later self.old self.new) }
+        ensures first { later ≡ false → IfOk result (ReachesRoot known.new self.old self.new) }
     {
         if !known.has_node(self.root) {
             return Ok(Some(Next::Fails {
@@ -257,6 +262,7 @@ impl Child {
         ensures stays { KeepsTry self.old self.new }
         ensures last { OnOk result (StaysLast known.old.cache self.old self.new) }
         ensures wants { IfOk result (WantsRoot known.old false self.old self.new) }
+        ensures first { IfOk result (ReachesRoot known.new self.old self.new) }
     {
         let page = match known.cache.get(self.root) {
             Some(spelled) => spelled.page.try_copy(alloc)?,

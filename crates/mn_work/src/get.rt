@@ -7,8 +7,9 @@ ghost use Rattle.mn_work.specs.Cached.{AreUsed, Puts, Walks, with_inner};
 ghost use Rattle.mn_work.specs.Descents.{FailsOff, DescentGoesOn, TakesPageBy, WantsPage};
 ghost use Rattle.mn_work.specs.Descents.{goes_by_kept};
 ghost use Rattle.mn_work.specs.Descents.{gone_below, may_be_leaf, values_at, wanted};
+ghost use Rattle.mn_work.specs.Firsts.{GetFailsFirst, GoesDown, Passes};
 ghost use Rattle.mn_work.specs.Knows.{ArePages, KeepsKnown};
-ghost use Rattle.mn_work.specs.Paths.{LeadsTo, PathPasses};
+ghost use Rattle.mn_work.specs.Paths.{IsLower, LeadsTo, PathPasses};
 ghost use Rattle.mn_work.specs.Walks.{IsAbove};
 ghost use Rattle.mn_work.specs.declared.get.Passed.TheVariants as passed;
 
@@ -135,6 +136,8 @@ impl Descent {
         ensures above { IsAbove self.old.above → IsAbove self.new.above }
         ensures version { self.new.version ≡ self.old.version }
         ensures stays { (result ≡ passed.On → ⊥) → self.new ≡ self.old }
+        ensures lower { result ≡ passed.On → IsLower self.old.above self.new.above }
+        ensures passes { Passes known.new key.now self.old self.new result }
         ensures path { (leaf : Descent) → LeadsTo known.old key.now self.old leaf
             → PathPasses known.new key.now self.old self.new leaf result }
     {
@@ -165,6 +168,8 @@ impl Descent {
         ensures above { IsAbove self.old.above → IsAbove self.new.above }
         ensures version { self.new.version ≡ self.old.version }
         ensures stays { (result ≡ passed.On → ⊥) → self.new ≡ self.old }
+        ensures lower { result ≡ passed.On → IsLower self.old.above self.new.above }
+        ensures passes { Passes known.new key.now self.old self.new result }
         ensures path { (leaf : Descent) → LeadsTo known.old key.now self.old leaf
             → PathPasses known.new key.now self.old self.new leaf result }
     {
@@ -200,6 +205,8 @@ impl Descent {
             → later ≡ false → (self.new ≡ leaf) × (result ≡ wanted false leaf) }
         ensures later { later ≡ true → self.new ≡ self.old }
         ensures fault { later ≡ true → FailsOff known.old.nodes self.old.addr result }
+        ensures first { later ≡ false
+            → GetFailsFirst known.new key.now self.old self.new result }
     {
         if later {
             self.reach_anew(known)
@@ -224,8 +231,8 @@ impl Descent {
         self.want(true)
     }
 
-    /// Goes on at the pages that are kept, as far as they lead. On: it went on at as many pages as
-    /// a path has.
+    /// Goes on at the pages that are kept, as far as they lead. Each is lower than the one before,
+    /// so they are fewer than `LEVELS`.
     fn go_down(&mut self, known: &mut Known, key: &[u8]) -> Passed
         requires pages { ArePages known.old.cache }
         requires above { IsAbove self.old.above }
@@ -235,6 +242,8 @@ impl Descent {
         ensures version { self.new.version ≡ self.old.version }
         ensures path { (leaf : Descent) → LeadsTo known.old key.now self.old leaf
             → (self.new ≡ leaf) × (result ≡ passed.Missing) }
+        ensures ends { result ≢ passed.On }
+        ensures goes { GoesDown known.new key.now self.old self.new result }
     {
         for _level in 0..LEVELS {
             match self.pass_kept(known, key) {
@@ -243,7 +252,7 @@ impl Descent {
                 Passed::Fault { seq } => return Passed::Fault { seq },
             }
         }
-        Passed::On
+        unreachable!()
     }
 
     /// What it wants next in a first try, which goes on at the pages that are kept.
@@ -257,9 +266,10 @@ impl Descent {
         ensures wants { WantsPage known.old.nodes false self.new result }
         ensures path { (leaf : Descent) → LeadsTo known.old key.now self.old leaf
             → (self.new ≡ leaf) × (result ≡ wanted false leaf) }
+        ensures first { GetFailsFirst known.new key.now self.old self.new result }
     {
         match self.go_down(known, key) {
-            Passed::On => Next::Fails { cause: None },
+            Passed::On => unreachable!(),
             Passed::Missing => self.want_on(known),
             Passed::Fault { seq } => Next::Fails {
                 cause: fault_at(self.addr, seq),
@@ -271,6 +281,7 @@ impl Descent {
     fn want_on(&self, known: &Known) -> Next
         ensures wants { WantsPage known.now.nodes false self.now result }
         ensures there { self.now.addr.node.0 < known.now.nodes → result ≡ wanted false self.now }
+        ensures fails { FailsOff known.now.nodes self.now.addr result }
     {
         if !known.has_node(self.addr) {
             return Next::Fails {

@@ -2,11 +2,14 @@ ghost use Rattle.std.specs.Prelude.{◌≡◌, false, true, IfOk, OnOk};
 ghost use Rattle.mn_page.specs.Grammar.{IsPage};
 ghost use Rattle.mn_scan.specs.Scan.{IsNeeded};
 ghost use Rattle.mn_work.specs.Cached.{AreUsed, Puts, Walks, next_then};
+ghost use Rattle.mn_work.specs.Firsts.{ScanFailsFirst, ScanPasses};
 ghost use Rattle.mn_work.specs.Knows.{ArePages, KeepsKnown};
 ghost use Rattle.mn_work.specs.Scans.{FailsOffNodes, IsUnmoved, StaysBefore, ScanGoesOn};
 ghost use Rattle.mn_work.specs.Scans.{TakesPage};
 ghost use Rattle.mn_work.specs.Scans.{WalksAlike, WantsNext, goes_by_kept, passage_of};
+ghost use Rattle.mn_work.specs.Paths.{IsLower};
 ghost use Rattle.mn_work.specs.Walks.{IsAbove};
+ghost use Rattle.mn_work.specs.declared.scan.Passage.TheVariants as passage;
 
 use crate::causes::LEVELS;
 use crate::known::Known;
@@ -98,6 +101,8 @@ fn pass_kept(
     ensures above { IsAbove scan.new.above }
     ensures alike { OnOk result (WalksAlike scan.old scan.new) }
     ensures missing { IfOk result (IsUnmoved scan.old scan.new) }
+    ensures lower { IfOk result (λ p. p ≡ passage.On → IsLower scan.old.above scan.new.above) }
+    ensures passes { IfOk result (ScanPasses known.new name.now scan.old addr scan.new) }
 {
     let page = match known.cache.get(addr) {
         Some(spelled) => spelled.page.try_copy(alloc)?,
@@ -128,7 +133,7 @@ fn reach_anew(scan: &ScanRun, known: &mut Known) -> Option<Next>
 }
 
 /// The page that a scan needs next and that isn't kept, in a first try. None where the scan has
-/// ended. It fails where it went on at as many pages as a path has.
+/// ended. Each kept page is lower than the one before, so they are fewer than `LEVELS`.
 fn reach_kept(
     alloc: Global,
     scan: &mut ScanRun,
@@ -142,6 +147,7 @@ fn reach_kept(
     ensures above { IsAbove scan.new.above }
     ensures alike { OnOk result (WalksAlike scan.old scan.new) }
     ensures wants { IfOk result (WantsNext known.old.nodes false scan.new) }
+    ensures first { IfOk result (ScanFailsFirst known.new name.now scan.old) }
 {
     for _level in 0..LEVELS {
         let ScanStep::Need { addr, leaf } = scan.next() else {
@@ -158,7 +164,7 @@ fn reach_kept(
             Passage::Fails { cause } => return Ok(Some(Next::Fails { cause })),
         }
     }
-    Ok(Some(Next::Fails { cause: None }))
+    unreachable!()
 }
 
 /// The page that a scan needs next and that isn't kept. A page that may be a leaf, and in a later
@@ -180,6 +186,7 @@ pub fn advance(
     ensures wants { IfOk result (WantsNext known.old.nodes later scan.new) }
     ensures later { later ≡ true → scan.new ≡ scan.old }
     ensures fault { later ≡ true → IfOk result (FailsOffNodes known.old.nodes scan.old.needed) }
+    ensures first { later ≡ false → IfOk result (ScanFailsFirst known.new name.now scan.old) }
 {
     if later {
         Ok(reach_anew(scan, known))

@@ -13,11 +13,11 @@ ghost use Rattle.mn_work.specs.Cached.{Replaces, Walks, next_of};
 ghost use Rattle.mn_work.specs.Knows.{ArePages, KeepsKnown, LearnsOrForgets};
 ghost use Rattle.mn_work.specs.Paths.{GetsAt, HasCurrentPath, LeadsTo, WantsLeaf};
 ghost use Rattle.mn_work.specs.Walks.{is_later};
-ghost use Rattle.mn_work.specs.Works.{AsksCount, AsksPage, BeginsJob, GoesOnBy, IsJobIfOn};
+ghost use Rattle.mn_work.specs.Works.{AsksCount, AsksPage, BeginsJob, FailsFirst, IsJobIfOn};
 ghost use Rattle.mn_work.specs.Works.{IsJobOf, IsReadIfOn, IsScan, IsStartable, KeepsOp, MayStart};
 ghost use Rattle.mn_work.specs.Works.{StartsBy, StaysLast};
 ghost use Rattle.mn_work.specs.Works.{TakesCatalog, TakesCountBytes, TakesPageBytes, WantsNext};
-ghost use Rattle.mn_work.specs.Works.{BeginsSteps, IsScanOp};
+ghost use Rattle.mn_work.specs.Works.{BeginsSteps, IsScanOp, WantsSo};
 ghost use Rattle.mn_work.specs.Works.{ends_with, lacks_catalog, lone_key, new_work, retried};
 ghost use Rattle.mn_work.specs.Works.{version_name};
 
@@ -328,7 +328,9 @@ impl Work {
             known.old.cache known.new.cache }
         ensures op { KeepsOp self.old self.new }
         ensures last { OnOk result (StaysLast known.old.cache self.old.job self.new.job) }
-        ensures wants { IfOk result (GoesOnBy known.new self.old self.new) }
+        ensures wants { IfOk result (WantsSo known.new self.old self.new) }
+        ensures first { is_later self.old.failed ≡ false
+            → IfOk result (FailsFirst known.new self.old self.new) }
         ensures path { (key : List ℕ) (d leaf : Descent) → self.old.failed ≡ 0
             → GetsAt self.old key d → LeadsTo known.old key d leaf
             → IfOk result (WantsLeaf leaf self.new) }

@@ -2,7 +2,7 @@ use Rattle.std.proofs.Common.{◌≡◌, ◌∙◌, ℕ, ◌≤◌, false, arith
 use Rattle.std.specs.Prelude.{nat_eq}
 use Rattle.std.proofs.lemmas.Bool.Decides.{nat_tests}
 use Rattle.mn_page.specs.Grammar.{height_of}
-use Rattle.mn_scan.specs.Scan.{ScanState}
+use Rattle.mn_scan.specs.Scan.{RefusesPage, ScanState}
 use Rattle.mn_work.specs.Scans.{WalksAlike}
 use Rattle.mn_work.specs.Walks.{IsAbove}
 use Rattle.mn_work.proofs.Scans.{fed_above, fed_alike}
@@ -40,3 +40,10 @@ returns-in-Ok-2-clause-stays c =
 pub returns-in-Ok-2-clause-above : goal.returns-in-Ok-2-clause-above
 returns-in-Ok-2-clause-above c =
     subst (λ (s : ScanState). IsAbove s.above) (sym c.in-Ok-2.ensures.fed) (fed_above c.args.scan.now c.args.page c.requires.page)
+
+-- it is refused
+pub returns-in-Err-BadPath-clause-taken : goal.returns-in-Err-BadPath-clause-taken
+returns-in-Err-BadPath-clause-taken c = (
+  sym (rw c.get-seen.ensures at c.goes_on.ensures) ∙ c.if-not-goes_on.false,
+  (subst (RefusesPage c.args.scan.now c.args.addr c.args.page) c.in-Err-BadPath.field-0-is c.in-Err-BadPath.ensures.refused).1,
+)

@@ -23,7 +23,7 @@ use Rattle.mn_work.specs.Cached.{Walks}
 use Rattle.mn_proxy.specs.LeafReads.{ReadsLeaf}
 use Rattle.mn_work.specs.Walks.{is_later}
 use Rattle.mn_proxy.proofs.LeafReads.{reads_leaf}
-use Rattle.mn_work.proofs.Cached.{walks_none}
+use Rattle.mn_work.proofs.Cached.{walks_first, walks_none}
 use Rattle.mn_proxy.proofs.Kept.{catalog_stays, catalog_then, err_then, no_page_turns, page_turns, used_turns}
 use Rattle.mn_proxy.proofs.Taking.{none_made}
 use Rattle.mn_proxy.specs.Firsts.{FailsAsKept, IsSecond}
@@ -390,6 +390,7 @@ returns-in-Fails-clause-first c = λ zero.
       c.want.new.work,
       c.in-Fails.cause,
       c.want.ensures.kept,
+      walks_first (is_later c.args.work.failed) _ c.args.self.now.known.cache c.want.new.self.known.cache (ap is_later zero) c.in_ok-want.ensures.cache,
       subst (λ (n : Next). WantsNext c.want.new.self.known c.args.work c.want.new.work n) c.in-Fails.is c.in_ok-want.ensures.wants,
     ))
 

@@ -8,6 +8,7 @@ use Rattle.mn_work.specs.declared.next.Next.TheVariants as next
 use Rattle.mn_work.specs.Attempts.{IsOnItsWay, IsTold, IsUnderWay, StaysOnItsWay, WantsBy, WantsNext, IsPlanWanted, was_read, with_overlay}
 use Rattle.mn_work.specs.Answers.{worn_by}
 use Rattle.mn_work.proofs.Attempts.{done_may, of_kept, plan_wanted, slots_are_many, to_kept, wanted_kept, slot_fails, worn_page, worn_wants, worn_way}
+use Rattle.mn_work.proofs.Firsts.{on_way}
 use Rattle.mn_work.proofs.attempt.Attempt.end.Goals as goal
 
 pub place-requires : goal.place-requires
@@ -56,3 +57,8 @@ pub returns-then-was_read-clause-wants : goal.returns-then-was_read-clause-wants
 returns-then-was_read-clause-wants c =
     slot_fails c.args.known.now c.args.steps.now c.args.self.now c.args.later c.args.counts.now c.args.slots.now c.requires.way c.requires.done c.requires.counts c.requires.slots
     (subst (λ (l : List SeenPage). was_read l c.args.slots.now ≡ true) c.as_slice.ensures.value (sym c.was_read.ensures ∙ c.if-was_read.true))
+
+pub returns-in-Err-Worn-clause-fails : goal.returns-in-Err-Worn-clause-fails
+returns-in-Err-Worn-clause-fails c =
+    on_way c.args.known.now c.args.steps.now _ c.worn.result
+    (subst (λ (s : TreeState). IsOnItsWay c.args.known.now c.args.steps.now (with_overlay c.args.self.now s)) (sym c.in_ok-pages.ensures.unchanged) c.requires.way)

@@ -34,8 +34,8 @@ overflow_add-result c =
     let many = unmet.many in
     omega arith
 
-pub returns : goal.returns
-returns c =
+pub returns-clause-wants : goal.returns-clause-wants
+returns-clause-wants c =
     let unmet = of_kept c.args.known.now.catalog c.in-Some.kept (λ es. IsUnmet c.args.known.now.nodes es c.args.steps.now c.args.self.now c.args.found) c.in-Some.is c.requires.unmet in
     subst (λ (o : Option (List ℕ)). WantsNext c.args.known.now c.args.later c.args.steps.now c.args.self.now (next.Plan c.in_ok-mini.mini (Unmet (c.args.self.now.done + 1) o))) (sym c.in_ok-new.ensures)
     (to_kept c.args.known.now.catalog c.in-Some.kept (λ es. WantsBy c.args.known.now.nodes es c.args.later c.args.steps.now c.args.self.now (next.Plan c.in_ok-mini.mini (Unmet (c.args.self.now.done + 1) c.args.found))) c.in-Some.is

@@ -3,6 +3,7 @@ use Rattle.std.proofs.Common.{◌≡◌, ◌<◌, ℕ, ap, arith, rules, subst, 
 use Rattle.mn_alloc.specs.Plan.{RefusesPlan, free_slots}
 use Rattle.mn_work.specs.Attempts.{WantsNext}
 use Rattle.mn_work.proofs.Attempts.{full_wants}
+use Rattle.mn_work.proofs.Firsts.{on_way}
 use Rattle.mn_work.proofs.attempt.Attempt.finish.Goals as goal
 
 pub returns-in-Err-Full-clause-wants : goal.returns-in-Err-Full-clause-wants
@@ -16,3 +17,6 @@ returns-in-Err-Full-clause-wants c =
       refused.1 ∙ ap free_slots same,
       subst (λ (n : ℕ). c.in-Err-Full.free < n) (sym refused.0) refused.2,
     ))
+
+pub returns-in-Err-Full-clause-fails : goal.returns-in-Err-Full-clause-fails
+returns-in-Err-Full-clause-fails c = on_way c.args.known.now c.args.steps.now _ c.full.result c.requires.way

@@ -1,9 +1,10 @@
-use Rattle.std.proofs.Common.{◌∙◌, Bool, not, Some, false, inr, refl, sym, subst}
+use Rattle.std.proofs.Common.{◌∙◌, Bool, not, Some, false, inl, inr, refl, sym, subst}
 use Rattle.std.proofs.lemmas.Bool.{ltb-false}
 use Rattle.mn_work.specs.declared.next.Next.TheVariants as next_is
 use Rattle.mn_work.specs.Cached.{Walks}
 use Rattle.mn_work.specs.Knows.{ArePages}
 use Rattle.mn_work.proofs.Attempts.{stuck_may}
+use Rattle.mn_work.proofs.Firsts.{came_none}
 use Rattle.mn_work.proofs.Cached.{drops, stays, uses, without}
 use Rattle.mn_work.proofs.attempt.Attempt.reach.Goals as goal
 
@@ -28,3 +29,12 @@ returns-clause-cache c =
     let next = Some (next_is.Page c.args.addr false) in
     subst (λ (b : Bool). Walks b (Some (next_is.Page c.args.addr (not b))) c.args.known.now.cache c.drop_page.new.self) (sym c.if-not-later.false)
     (drops next c.args.known.now.cache c.drop_page.new.self c.drop_page.ensures.pages)
+
+pub returns-then-not-has_node-clause-came : goal.returns-then-not-has_node-clause-came
+returns-then-not-has_node-clause-came c = came_none c.args.known.now.cache c.args.self.now c.args.self.now refl
+
+pub returns-then-not-has_node-clause-first : goal.returns-then-not-has_node-clause-first
+returns-then-not-has_node-clause-first c = λ first. inl c.requires.way
+
+pub returns-clause-came : goal.returns-clause-came
+returns-clause-came c = came_none c.drop_page.new.self c.args.self.now c.args.self.now refl

@@ -1,7 +1,9 @@
--- None of the cached pages has left, and the walk leads on to the same leaf.
-use Rattle.std.proofs.Common.{◌≡◌}
+-- None of the cached pages has left, and the walk leads on to the same leaf, by kept pages.
+use Rattle.std.proofs.Common.{◌≡◌, List, Some}
+use Rattle.mn_page.specs.declared.entry.CatEntry.{CatEntry}
 use Rattle.mn_work.specs.declared.get.Descent.{Descent}
 use Rattle.mn_work.specs.Cached.{AreUsed}
+use Rattle.mn_work.specs.Firsts.{HasGoneDown}
 use Rattle.mn_work.specs.Knows.{KeepsKnown}
 use Rattle.mn_work.specs.Paths.{LeadsTo}
 use Rattle.mn_work.specs.Walks.{IsAbove}
@@ -15,5 +17,8 @@ invariant-loop-level l = record {
   above : IsAbove l.self.above;
   version : l.self.version ≡ l.fn.self.version;
   path : (leaf : Descent) → LeadsTo l.fn.known l.fn.key l.fn.self leaf
-      → LeadsTo l.known l.fn.key l.self leaf × HasGone l._level l.self.above;
+      → LeadsTo l.known l.fn.key l.self leaf;
+  low : HasGone l._level l.self.above;
+  down : (entries : List CatEntry) → l.fn.known.catalog ≡ Some entries
+      → HasGoneDown entries l.known.cache l.fn.key l.fn.self l.self;
 }

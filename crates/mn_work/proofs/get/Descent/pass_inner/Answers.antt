@@ -1,4 +1,4 @@
-use Rattle.std.proofs.Common.{◌≡◌, ◌≤◌, ◌∙◌, Some, false, true, ap, arith, eqb-true, refl, subst, sym}
+use Rattle.std.proofs.Common.{◌≡◌, ◌≤◌, ◌∙◌, List, Some, false, true, ap, arith, eqb-true, refl, subst, sym}
 use Rattle.std.specs.Option.{option_map}
 use Rattle.mn_page.specs.Grammar.{IsPage, height_of}
 use Rattle.mn_work.specs.declared.get.Descent.{Descent}
@@ -8,7 +8,10 @@ use Rattle.mn_work.specs.Paths.{IsLower, LeadsTo}
 use Rattle.mn_work.specs.Walks.{IsAbove}
 use Rattle.mn_work.proofs.Cached.{found, one_used, used}
 use Rattle.mn_work.proofs.Descents.{gone_above, gone_version}
-use Rattle.mn_work.proofs.Paths.{leads_still, none_leaf, on_way_as, some_leads}
+use Rattle.mn_page.specs.declared.entry.CatEntry.{CatEntry}
+use Rattle.mn_path.specs.Walk.{front_of}
+use Rattle.mn_work.specs.Descents.{is_on_way}
+use Rattle.mn_work.proofs.Paths.{goes_lower, leads_still, none_leaf, on_way_as, some_leads, used_keep}
 use Rattle.mn_work.proofs.get.Descent.pass_inner.Goals as goal
 
 pub returns-in_default-get-clause-kept : goal.returns-in_default-get-clause-kept
@@ -42,6 +45,19 @@ returns-then-not-is_on_path-clause-path c = λ leaf leads.
     c.tree.ensures c.of_page-front.ensures c.is_on_path.ensures in
     let both : false ≡ true = sym c.if-not-is_on_path.true ∙ (on ∙ some.on) in
     absurd cc
+
+pub returns-then-not-is_on_path-clause-passes : goal.returns-then-not-is_on_path-clause-passes
+returns-then-not-is_on_path-clause-passes c = λ entries catalog.
+    let d = c.args.self.now in
+    let page = c.get-page.result.now in
+    let same : c.in-Some.kept ≡ entries = (let both : Some c.in-Some.kept ≡ Some entries = sym c.in-Some.is ∙ catalog in cc) in
+    let on = on_way_as d c.in-Some.kept c.args.key.now page c.tree.result.now c.of_page-front.result c.is_on_path.result
+    c.tree.ensures c.of_page-front.ensures c.is_on_path.ensures in (
+      page,
+      used_keep d.addr c.args.known.now.cache c.get.follows.lender-at-none (one_used d.addr c.args.known.now.cache c.get.follows.lender-at-none c.get.follows.holds-at-none)
+          ∙ (sym c.get.ensures.found ∙ ap (option_map (λ s. s.now.page)) c.in-Some-get.is ∙ ap Some (sym c.get-page.ensures)),
+      (subst (λ (es : List CatEntry). is_on_way es d c.args.key.now (front_of page) ≡ false) same (sym on ∙ c.if-not-is_on_path.true), refl),
+    )
 
 pub returns-then-is_leaf-clause-kept : goal.returns-then-is_leaf-clause-kept
 returns-then-is_leaf-clause-kept c =
@@ -89,4 +105,28 @@ returns-clause-path c = λ leaf leads.
       leads_still c.args.known.now after c.args.key.now (gone_below d page.body c.args.key.now) leaf refl refl
           (one_used d.addr c.args.known.now.cache c.get.follows.lender-at-none c.get.follows.holds-at-none) some.leads,
       some.lower,
+    )
+
+pub returns-clause-lower : goal.returns-clause-lower
+returns-clause-lower c = λ goes.
+    let d = c.args.self.now in
+    let page = c.get-page.result.now in
+    let on = on_way_as d c.in-Some.kept c.args.key.now page c.tree.result.now c.of_page-front.result c.is_on_path.result
+    c.tree.ensures c.of_page-front.ensures c.is_on_path.ensures in
+    let inner = found d.addr c.args.known.now.cache page c.requires.pages (sym c.get.ensures.found ∙ ap (option_map (λ s. s.now.page)) c.in-Some-get.is ∙ ap Some (sym c.get-page.ensures)) in
+    subst (λ (x : Descent). IsLower d.above x.above) (sym c.below.ensures)
+    (goes_lower c.in-Some.kept d c.args.key.now page inner.1 (sym on ∙ c.if-not-is_on_path.false))
+
+pub returns-clause-passes : goal.returns-clause-passes
+returns-clause-passes c = λ entries catalog.
+    let d = c.args.self.now in
+    let page = c.get-page.result.now in
+    let same : c.in-Some.kept ≡ entries = (let both : Some c.in-Some.kept ≡ Some entries = sym c.in-Some.is ∙ catalog in cc) in
+    let on = on_way_as d c.in-Some.kept c.args.key.now page c.tree.result.now c.of_page-front.result c.is_on_path.result
+    c.tree.ensures c.of_page-front.ensures c.is_on_path.ensures in (
+      page,
+      used_keep d.addr c.args.known.now.cache c.get.follows.lender-at-none (one_used d.addr c.args.known.now.cache c.get.follows.lender-at-none c.get.follows.holds-at-none)
+          ∙ (sym c.get.ensures.found ∙ ap (option_map (λ s. s.now.page)) c.in-Some-get.is ∙ ap Some (sym c.get-page.ensures)),
+      subst (λ (es : List CatEntry). is_on_way es d c.args.key.now (front_of page) ≡ true) same (sym on ∙ c.if-not-is_on_path.false),
+      c.below.ensures,
     )

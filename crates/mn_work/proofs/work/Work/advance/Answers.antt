@@ -6,7 +6,7 @@ use Rattle.mn_work.specs.Walks.{is_later}
 use Rattle.mn_work.specs.Works.{GoesOnBy, JobIsLast, StaysLast, lacks_catalog}
 use Rattle.mn_work.proofs.Getting.{begins_there, has_catalog}
 use Rattle.mn_work.proofs.Cached.{stays}
-use Rattle.mn_work.proofs.Works.{starts_last, wants_begun, wants_on}
+use Rattle.mn_work.proofs.Works.{goes_so, starts_last, wants_begun, wants_on}
 use Rattle.mn_work.proofs.work.Work.advance.Goals as goal
 use Rattle.mn_work.proofs.work.Work.advance.Goals.{in-Start+in_ok-begin, in_default}
 
@@ -21,11 +21,11 @@ returns-clause-wants c =
       | in-Start+in_ok-begin w ↦
           IfOk-weaker c.go_on.result (GoesOnBy new from after) _
           (λ next goes. wants_begun known new before after next c.go_on.ensures.kept w.begin.new.self from w.in-Start.is w.self-is (sym c.lacks_catalog.ensures ∙ c.if-lacks_catalog.false) w.in_ok-begin.ensures.starts w.in_ok-begin.ensures.op w.in_ok-begin.ensures.right goes)
-          c.go_on.ensures.wants
+          (goes_so new from after c.go_on.result c.go_on.ensures.wants c.go_on.ensures.first)
       | in_default w ↦
           IfOk-weaker c.go_on.result (GoesOnBy new from after) _
           (λ next goes. wants_on known new before after next c.go_on.ensures.kept from w.in_default.not-Start (sym c.lacks_catalog.ensures ∙ c.if-lacks_catalog.false) w.self-is goes)
-          c.go_on.ensures.wants
+          (goes_so new from after c.go_on.result c.go_on.ensures.wants c.go_on.ensures.first)
     ]
 
 pub returns-then-lacks_catalog-clause-cache : goal.returns-then-lacks_catalog-clause-cache
