@@ -28,7 +28,7 @@ use Rattle.mn_commits.specs.CommitReader.{issued_of}
 use Rattle.mn_runs.specs.Commits.{committed_by, committed_at, effect_of}
 use Rattle.mn_serial.specs.History.{Placed, EntryPuts, IsHistory, StepPuts, pasts_of}
 use Rattle.mn_serial.specs.Meaning.{HistoryIsOne, OpenedRun}
-use Rattle.mn_serial.specs.OneHistory.{RunsHaveHistory}
+use Rattle.mn_serial.specs.OneHistory.{RunsAreOneHistory, RunsHaveHistory}
 use Rattle.mn_runs.specs.Protocol.{Start, entries_of}
 use Rattle.mn_runs.specs.Seen.{seen_at}
 use Rattle.mn_runs.proofs.Same.{client_same-refl, client_same-true}
@@ -41,6 +41,7 @@ use Rattle.mn_hist.specs.History.{CallerState, placed_act, acts_in, begun_by, id
 use Rattle.mn_hist.specs.History.{AreCallerStates, AreActsOf, KnowsPlanners, IsIssuedUnderId, AnswerIsInHistory, CommitIsInHistory, StandsInSet, AnswerHasPlace, EntryHasPlace, EntryIsInHistory}
 use Rattle.mn_hist.proofs.Loops.{drop_here}
 use Rattle.mn_hist.proofs.Noted.{begun_is}
+use Rattle.mn_hist.proofs.Served.{last_serves}
 
 -- Clients
 
@@ -167,8 +168,12 @@ takes_answer past e c number answer placed standing acts by is p = record {
 -- its answer has its place where the entry has
 pub answer_has : (past : List Entry) (e : Entry) (c : ClientNo) (number : ℕ) (answer : Answer) (placed : List Placed) → e.client ≡ Some c → e.what ≡ Answered number answer
     → EntryHasPlace past e None placed → AnswerHasPlace past c answer placed
-answer_has past e c number answer placed by is (next, puts) =
-    (next, subst (λ (w : What). StepPuts past (Some c) w placed next) is (subst (λ (o : Option ClientNo). StepPuts past o e.what placed next) by puts))
+answer_has past e c number answer placed by is has = record {
+  next = has.next;
+  puts = subst (λ (w : What). StepPuts past (Some c) w placed has.next) is (subst (λ (o : Option ClientNo). StepPuts past o e.what placed has.next) by has.puts);
+  ascends = λ after puts. has.ascends after (subst (λ (o : Option ClientNo). StepPuts past o e.what placed after) (sym by) (subst (λ (w : What). StepPuts past (Some c) w placed after) (sym is) puts));
+  serve = has.serve;
+}
 
 -- that commits
 pub takes_commit : (past : List Entry) (e : Entry) (m : CommittedMini) (placed : List Placed) (standing : List (List Bool)) (acts : List PlacedAct)
@@ -188,13 +193,18 @@ pub one_more : (log : List (ℕ × Entry)) (i : ℕ) (e : ℕ × Entry) → i < 
 one_more log i e here is = grind (arith, common_steps)
 
 -- what the next entry puts into the history of an opened run has its place
-pub has_place : (start : Start) (store : Store) (past : List Entry) (e : Entry) (placed : List Placed) → RunsHaveHistory × HistoryIsOne
+pub has_place : (start : Start) (store : Store) (past : List Entry) (e : Entry) (placed : List Placed) → RunsHaveHistory × HistoryIsOne → RunsAreOneHistory
     → OpenedRun start store (e ∷ past) → IsHistory past placed → EntryHasPlace past e (committed_by past e) placed
-has_place start store past e placed laws run is =
+has_place start store past e placed laws one run is =
     let next = laws.0 start store (e ∷ past) run in
     let before : OpenedRun start store past = record { opened = run.opened; run = run.run.0 } in
     let same : next.1.0 ≡ placed = laws.1 start store past next.1.0 placed (record { opened = before; history = next.1.1 }) (record { opened = before; history = is }) in
-    (next.0, subst (λ (old : List Placed). EntryPuts past e (committed_by past e) old next.0) same next.1.2)
+    record {
+      next = next.0;
+      puts = subst (λ (old : List Placed). EntryPuts past e (committed_by past e) old next.0) same next.1.2;
+      ascends = λ after puts. (one start store (e ∷ past) after (record { opened = run; history = (placed, is, puts) })).ascending;
+      serve = last_serves start store past placed before is;
+    }
 
 -- Replies
 

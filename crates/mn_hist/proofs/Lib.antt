@@ -6,6 +6,7 @@ pub mod Loops
 pub mod Places
 pub mod Leaves
 pub mod Noted
+pub mod Served
 pub mod Putting
 pub mod Planning
 pub mod Planned

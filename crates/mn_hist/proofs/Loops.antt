@@ -1,5 +1,5 @@
 -- Lists that a loop goes through, and what it makes of them.
-use Rattle.std.proofs.Common.{◌≡◌, ℕ, zero, suc, ◌+◌, ◌<◌, List, [], ◌∷◌, ◌++◌, Option, Some, None, length, map, take, drop, reverse, slice_index_or, refl, subst, sym, ap, ◌∙◌, arith}
+use Rattle.std.proofs.Common.{◌≡◌, ℕ, zero, suc, ◌+◌, ◌<◌, ◌≤◌, List, [], ◌∷◌, ◌++◌, Option, Some, None, length, map, take, drop, reverse, slice_index_or, refl, subst, sym, ap, ◌∙◌, arith}
 use Rattle.std.specs.List.{AllByRecursion}
 use Rattle.std.proofs.lemmas.List.{append_assoc, reverse-append}
 use Rattle.mn_base.specs.Tree.{parents_of}
@@ -7,7 +7,7 @@ use Rattle.mn_base.specs.declared.ids.VersionNo.{VersionNo}
 use Rattle.mn_base.proofs.Lists.{all_append}
 use Rattle.mn_page.specs.Forest.{parent_number, heads_in}
 use Rattle.mn_page.specs.declared.entry.CatEntry.{CatEntry}
-use Rattle.mn_vtree.specs.Parents.{numbers_of}
+use Rattle.mn_vtree.specs.Parents.{AreLess, IsFirstBad, numbers_of}
 use Rattle.std.specs.Option.{option_map}
 use Rattle.mn_cell.proofs.Running.{reverse_more}
 
@@ -27,6 +27,12 @@ more f (a ∷ xs) (b ∷ ys) (suc i) x y lx ly ex ey e h =
 pub take_more : {X Y : Type 0} (f : X → Y) (xs : List X) (ys : List Y) (i : ℕ) (x : X) (y : Y) → i < length xs → i < length ys → x ≡ slice_index_or xs i x → y ≡ slice_index_or ys i y → y ≡ f x → take i ys ≡ map f (take i xs) → take (i + 1) ys ≡ map f (take (i + 1) xs)
 take_more f xs ys i x y lx ly ex ey e h = subst (λ n. take n ys ≡ map f (take n xs)) (plus_one i) (more f xs ys i x y lx ly ex ey e h)
 
+-- what stands at a place of a mapped list
+pub mapped_at : {X Y : Type 0} (f : X → Y) (xs : List X) (i : ℕ) (x : X) (y : Y) → i < length xs → x ≡ slice_index_or xs i x → y ≡ slice_index_or (map f xs) i y → y ≡ f x
+mapped_at f [] i x y lt ex ey = absurd (omega (arith, lt))
+mapped_at f (a ∷ xs) zero x y lt ex ey = ey ∙ ap f (sym ex)
+mapped_at f (a ∷ xs) (suc i) x y lt ex ey = mapped_at f xs i x y (omega (arith, lt)) ex ey
+
 pub map_map : {X Y Z : Type 0} (g : Y → Z) (f : X → Y) (xs : List X) → map (λ x. g (f x)) xs ≡ map g (map f xs)
 map_map g f [] = refl
 map_map g f (x ∷ xs) = ap (λ l. g (f x) ∷ l) (map_map g f xs)
@@ -39,6 +45,13 @@ number_same (Some v) = refl
 pub parents_same : (entries : List CatEntry) → numbers_of (map (λ e. e.parent) entries) ≡ parents_of (heads_in entries)
 parents_same [] = refl
 parents_same (e ∷ es) = ap (λ l. option_map (λ (v : VersionNo). v.0) e.parent ∷ l) (parents_same es) ∙ ap (λ n. n ∷ parents_of (heads_in es)) (number_same e.parent)
+
+-- where one is refused they are not all less
+pub not_less : (parents : List (Option ℕ)) (v : ℕ) → AreLess parents → IsFirstBad parents v → ⊥
+not_less parents v less first =
+    let low : first.bad.0 < v = less v first.bad.0 first.bad.1 in
+    let high : v ≤ first.bad.0 = first.bad.2 in
+    absurd (omega (arith, low, high))
 
 more_of : {X Y : Type 0} (f : X → Y) (xs : List X) (i : ℕ) (x : X) → i < length xs → x ≡ slice_index_or xs i x → map f (take (suc i) xs) ≡ map f (take i xs) ++ f x ∷ []
 more_of f [] i x lt is = absurd (omega (arith, lt))

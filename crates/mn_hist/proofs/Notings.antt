@@ -17,7 +17,7 @@ use Rattle.mn_runs.specs.Seen.{Seen, seen_at, seen_by}
 use Rattle.mn_runs.proofs.Seen.{nothing, seen_by_is}
 use Rattle.mn_serial.proofs.Meaning.Tell.{one_read}
 use Rattle.mn_hist.specs.History.{CallerState, IsOnlyNote, Note, Noting, TellsCatalogRead, TellsNoteShows, noted_in, notes_in, with_catalog, with_seen}
-use Rattle.mn_hist.specs.Shown.{IsShownBy, IsUnshown, TellsShown, is_of_catalog}
+use Rattle.mn_hist.specs.Shown.{IsShownBy, IsUnshownBy, TellsShown, is_of_catalog}
 use Rattle.mn_hist.proofs.Loops.{reverse_at}
 
 -- The reads of a list of entries
@@ -31,11 +31,11 @@ notes_at ns i n seen lt is one =
     ∙ ap (λ (l : List Seen). notes_in (reverse (drop (i + 1) ns)) ++ (map (λ (s : Seen). let note : Note = record { place = n.place; seen = s; catalog = n.catalog } in note) l ++ notes_in (reverse (take i ns)))) one)
 
 -- what holds of what the entries brought holds of the reads
-pub all_noted : (P : Seen → Type 0) (ns : List Noting) → AllByRecursion (λ (n : Noting). AllByRecursion P n.seens) ns → AllByRecursion (λ (n : Note). P n.seen) (notes_in ns)
+pub all_noted : (P : Option (List ℕ) → Seen → Type 0) (ns : List Noting) → AllByRecursion (λ (n : Noting). AllByRecursion (P n.catalog) n.seens) ns → AllByRecursion (λ (n : Note). P n.catalog n.seen) (notes_in ns)
 all_noted P [] all = tt
-all_noted P (n ∷ ns) all = all_append (λ (m : Note). P m.seen) (noted_in n) (notes_in ns) (each n.seens all.0) (all_noted P ns all.1)
+all_noted P (n ∷ ns) all = all_append (λ (m : Note). P m.catalog m.seen) (noted_in n) (notes_in ns) (each n.seens all.0) (all_noted P ns all.1)
   where
-    each : (seens : List Seen) → AllByRecursion P seens → AllByRecursion (λ (m : Note). P m.seen) (map (λ (s : Seen). let note : Note = record { place = n.place; seen = s; catalog = n.catalog } in note) seens)
+    each : (seens : List Seen) → AllByRecursion (P n.catalog) seens → AllByRecursion (λ (m : Note). P m.catalog m.seen) (map (λ (s : Seen). let note : Note = record { place = n.place; seen = s; catalog = n.catalog } in note) seens)
     each [] all = tt
     each (s ∷ seens) all = (all.0, each seens all.1)
 
@@ -120,4 +120,5 @@ told_read false seen seens is same = subst (AllByRecursion (λ (x : Seen). is_of
 pub told_shows : (b : Bool) (n : Noting) (catalog : Option (List ℕ)) (seen : Seen) (op : Op) (reply : Reply) → n.seens ≡ seen ∷ [] → n.catalog ≡ catalog
     → TellsShown b catalog seen op reply → TellsNoteShows b n op reply
 told_shows true n catalog seen op reply is same shown = (seen, is, subst (λ (o : Option (List ℕ)). IsShownBy o seen op reply) (sym same) shown)
-told_shows false n catalog seen op reply is same shown = subst (AllByRecursion (λ (s : Seen). IsUnshown s op reply)) (sym is) (shown, tt)
+told_shows false n catalog seen op reply is same shown =
+    subst (AllByRecursion (λ (s : Seen). IsUnshownBy n.catalog s op reply)) (sym is) (subst (λ (o : Option (List ℕ)). IsUnshownBy o seen op reply) (sym same) shown, tt)

@@ -16,7 +16,7 @@ use Rattle.mn_runs.specs.declared.entry.What.TheVariants.{Begin, Issue, Called, 
 use Rattle.mn_law.specs.Answers.{IsPlanBy, IsPlanOfOp}
 use Rattle.mn_runs.specs.Calls.{Begun, Issued, client_entries, issue_in, issues_of, issue_named, under_way}
 use Rattle.mn_serial.specs.History.{Placed, PlanOf, EntryPuts, has_past}
-use Rattle.mn_runs.specs.Protocol.{Start}
+use Rattle.mn_runs.specs.Protocol.{AllowedBy, Start}
 use Rattle.mn_law.specs.Run.{IsRun, Means}
 use Rattle.mn_runs.proofs.Same.{tid_same-true}
 use Rattle.mn_hist.specs.Plans.{Planner}
@@ -82,6 +82,50 @@ pub plan_of : (start : Start) (tid : Tid) (mini : Mini) (a : Act) (past : List E
     → (reply : Reply) × PlanOf past (record { tid = tid; mini = mini }) (record { client = a.client; number = a.number; op = a.op; reply = reply })
 plan_of start tid mini a [] run other planner named = absurd cc
 plan_of start tid mini a (e ∷ past) run other planner named = plan_step past e.node e.client e.what tid mini a run.1.means other (λ p n. plan_of start tid mini a past run.0 other p n) planner named
+
+-- the operation of a plan is known: a client issued it, for the operation under way
+act_here : (past : List Entry) (at : Option NodeNo) (by : Option ClientNo) (tid : Tid) (mini : Mini) → AllowedBy past by at (Issue tid mini) → Means past by (Issue tid mini) → is_read mini.items ≡ false
+    → (a : Act) × (◌≡◌ {A = Planner} (record { client = by; begun = begun_by by past }) (planner_for a))
+act_here past at None tid mini allowed means other = absurd allowed
+act_here past at (Some c) tid mini allowed means other = kind means.1
+  where
+    of : (o : Option Begun) → under_way (client_entries c past) ≡ o → IsPlanOfOp (client_entries c past) o mini → (a : Act) × (◌≡◌ {A = Planner} (record { client = Some c; begun = under_way (client_entries c past) }) (planner_for a))
+    of None e none = absurd none
+    of (Some b) e plan = (record { client = c; number = b.number; op = b.op }, ap (λ (o : Option Begun). let p : Planner = record { client = Some c; begun = o } in p) e)
+
+    kind : IsTrue (is_read mini.items) ⊎ IsPlanOfOp (client_entries c past) (under_way (client_entries c past)) mini → (a : Act) × (◌≡◌ {A = Planner} (record { client = Some c; begun = under_way (client_entries c past) }) (planner_for a))
+    kind (inl read) = absurd (clash (is_read mini.items) read other)
+    kind (inr plan) = of (under_way (client_entries c past)) refl plan
+
+-- of an id whose plan is this one, an operation is kept
+abbrev KeepsAct : List Entry → Tid → Type 0
+KeepsAct past tid = (a : Act) × (planner_of tid past ≡ Some (planner_for a))
+
+act_step : (past : List Entry) (at : Option NodeNo) (by : Option ClientNo) (what : What) (tid : Tid) (mini : Mini)
+    → AllowedBy past by at what → Means past by what → is_read mini.items ≡ false
+    → (issue_named tid (issues_of past) ≡ Some mini → KeepsAct past tid) → issue_named tid (issue_in what ++ issues_of past) ≡ Some mini
+    → (a : Act) × (planner_after tid by what past (planner_of tid past) ≡ Some (planner_for a))
+act_step past at by (Issue t m) tid mini allowed means other older named =
+    elim (tid_same t tid) as (λ b. (if b then Some m else issue_named tid (issues_of past)) ≡ Some mini → (a : Act) × ((if b then Some (record { client = by; begun = begun_by by past }) else planner_of tid past) ≡ Some (planner_for a))) [
+      | true ↦ λ named. here (unsome m mini named)
+      | false ↦ λ named. older named
+    ] named
+  where
+    here : m ≡ mini → (a : Act) × (Some (record { client = by; begun = begun_by by past }) ≡ Some (planner_for a))
+    here is =
+        let found = act_here past at by t m allowed means (ap (λ (x : Mini). is_read x.items) is ∙ other) in
+        (found.0, ap (λ (p : Planner). Some p) found.1)
+act_step past at by (Begin number op) tid mini allowed means other older named = older named
+act_step past at by (Answered number answer) tid mini allowed means other older named = older named
+act_step past at by (Called request reply) tid mini allowed means other older named = older named
+act_step past at by (Stopped request asked) tid mini allowed means other older named = older named
+act_step past at by (Restarted kept) tid mini allowed means other older named = older named
+act_step past at by (Abandoned t) tid mini allowed means other older named = older named
+
+-- of each plan of a run an operation is kept
+pub keeps_act : (start : Start) (tid : Tid) (mini : Mini) (past : List Entry) → IsRun start past → is_read mini.items ≡ false → issue_named tid (issues_of past) ≡ Some mini → (a : Act) × (planner_of tid past ≡ Some (planner_for a))
+keeps_act start tid mini [] run other named = absurd cc
+keeps_act start tid mini (e ∷ past) run other named = act_step past e.node e.client e.what tid mini run.1.keeps.by_client run.1.means other (λ n. keeps_act start tid mini past run.0 other n) named
 
 -- What a commit puts into the history
 

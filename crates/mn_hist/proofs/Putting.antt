@@ -12,11 +12,11 @@ use Rattle.mn_base.specs.declared.reply.Reply.{Reply}
 use Rattle.mn_base.proofs.Naturals.{lt_true}
 use Rattle.mn_runs.specs.declared.entry.Entry.{Entry}
 use Rattle.mn_runs.specs.Calls.{Begun, client_entries, under_way}
-use Rattle.mn_serial.specs.History.{Placed, placed_in, has_past, AnswerPuts}
+use Rattle.mn_serial.specs.History.{Placed, ReadPlace, placed_in, has_past, AnswerPuts}
 use Rattle.mn_serial.specs.OneHistory.{Ascend}
 use Rattle.mn_hist.specs.declared.acts.PlacedAct.{PlacedAct}
-use Rattle.mn_hist.specs.History.{placed_act, caller_state, AreActsOf, IsNotedPlace, IsPutInto, IsIndexIn, StandsInSet, AnswerIsInHistory, AnswerHasPlace, stands}
-use Rattle.mn_hist.proofs.Noted.{begun_is, noted_place}
+use Rattle.mn_hist.specs.History.{placed_act, caller_state, AreActsOf, HasNoPlace, IsNotedPlace, IsPutInto, IsIndexIn, NoneStandsAt, StandsInSet, AnswerIsInHistory, AnswerHasPlace, stands}
+use Rattle.mn_hist.proofs.Noted.{begun_is, no_place, noted_place}
 use Rattle.mn_hist.proofs.Planning.{or_swap}
 
 -- Where it is put in
@@ -47,6 +47,46 @@ pub lower_ones : (acts : List PlacedAct) (placed : List Placed) (i : ℕ) (x : P
 lower_ones acts placed i x n up are lt is less =
     subst (λ (l : List PlacedAct). AllByRecursion (λ (a : PlacedAct). a.place < n) (take (suc i) l)) (sym are)
     (lower placed i x n up (subst (λ (l : List PlacedAct). i < length l) are lt) (subst (λ (l : List PlacedAct). x ≡ slice_index_or l i x) are is) less)
+
+free : (placed : List Placed) (i : ℕ) (x : PlacedAct) (n : ℕ) → NoneStandsAt n placed → i < length (map placed_act placed) → x ≡ slice_index_or (map placed_act placed) i x → x.place ≡ n → ⊥
+free [] i x n none lt is same = absurd (omega (arith, lt))
+free (q ∷ qs) zero x n none lt is same = none.0 (sym (ap (λ (y : PlacedAct). y.place) is) ∙ same)
+free (q ∷ qs) (suc i) x n none lt is same = free qs i x n none.1 (omega (arith, lt)) is same
+
+-- one that doesn't stand higher stands lower
+pub below_free : (acts : List PlacedAct) (placed : List Placed) (i : ℕ) (x : PlacedAct) (n : ℕ) → AreActsOf acts placed → NoneStandsAt n placed → i < length acts → x ≡ slice_index_or acts i x → x.place ≤ n → x.place < n
+below_free acts placed i x n are none lt is le =
+    lower' x.place n le (free placed i x n none (subst (λ (l : List PlacedAct). i < length l) are lt) (subst (λ (l : List PlacedAct). x ≡ slice_index_or l i x) are is))
+  where
+    lower' : (a b : ℕ) → a ≤ b → (a ≡ b → ⊥) → a < b
+    lower' a b le other = by (nat_lt a b) refl
+      where
+        by : (t : Bool) → nat_lt a b ≡ t → a < b
+        by true is = grind (arith)
+        by false is = absurd (other (grind (arith)))
+
+has_it : (P : Placed → Type 0) (p : Placed) (placed : List Placed) → AllByRecursion P (placed_in p placed) → P p
+has_it P p [] all = all.0
+has_it P p (q ∷ qs) all = by (nat_lt p.place q.place) all (has_it P p qs)
+  where
+    by : (b : Bool) → AllByRecursion P (if b then p ∷ q ∷ qs else q ∷ placed_in p qs) → (AllByRecursion P (placed_in p qs) → P p) → P p
+    by true all rest = all.0
+    by false all rest = rest all.1
+
+above_all : (m : ℕ) (placed : List Placed) → AllByRecursion (λ (q : Placed). m < q.place) placed → NoneStandsAt m placed
+above_all m [] all = tt
+above_all m (q ∷ qs) all = (λ same. let high : m < q.place = all.0 in absurd (omega (arith, high, same)), above_all m qs all.1)
+
+-- where all are in order with it, none stands at its place
+pub none_stands : (p : Placed) (placed : List Placed) → Ascend (placed_in p placed) → NoneStandsAt p.place placed
+none_stands p [] up = tt
+none_stands p (q ∷ qs) up = by (nat_lt p.place q.place) up (none_stands p qs)
+  where
+    by : (b : Bool) → Ascend (if b then p ∷ q ∷ qs else q ∷ placed_in p qs) → (Ascend (placed_in p qs) → NoneStandsAt p.place qs) → NoneStandsAt p.place (q ∷ qs)
+    by true up rest = above_all p.place (q ∷ qs) up.0
+    by false up rest =
+        let low : q.place < p.place = has_it (λ (r : Placed). q.place < r.place) p qs up.0 in
+        (λ same. absurd (omega (arith, low, same)), rest up.1)
 
 put_acts : (p : Placed) (placed : List Placed) (at : ℕ) → IsIndexIn (map placed_act placed) p.place at → insert (map placed_act placed) at (placed_act p) ≡ map placed_act (placed_in p placed)
 put_acts p [] zero index = refl
@@ -97,34 +137,51 @@ pub idle_puts : (past : List Entry) (c : ClientNo) (answer : Answer) (placed : L
 idle_puts past c answer placed idle = not_under_way past c answer placed (under_way (client_entries c past)) (sym (begun_is c past) ∙ idle)
 
 standing_puts : (past : List Entry) (c : ClientNo) (begun : Begun) (reply : Reply) (placed : List Placed) (b : Bool) → has_past c begun.number placed ≡ b → b ≡ true → AnswerPuts past c (Some begun) (Replied reply) placed placed
-standing_puts past c begun reply placed b is true' = subst (λ t. MatchBool t (placed ≡ placed) ((place : ℕ) × Rattle.mn_serial.specs.History.ReadPlace c past begun.op reply place × (placed ≡ placed_in (record { place = place; past = record { client = c; number = begun.number; op = begun.op; reply = reply } }) placed))) (sym (is ∙ true')) refl
+standing_puts past c begun reply placed b is true' = subst (λ t. MatchBool t (placed ≡ placed) ((place : ℕ) × ReadPlace c past begun.op reply place × (placed ≡ placed_in (record { place = place; past = record { client = c; number = begun.number; op = begun.op; reply = reply } }) placed))) (sym (is ∙ true')) refl
 
 pub stands_already : (past : List Entry) (c : ClientNo) (begun : Begun) (reply : Reply) (placed : List Placed) → (caller_state c past).begun ≡ Some begun → has_past c begun.number placed ≡ true → AnswerPuts past c (under_way (client_entries c past)) (Replied reply) placed placed
 stands_already past c begun reply placed is has = subst (λ o. AnswerPuts past c o (Replied reply) placed placed) (sym is ∙ begun_is c past) (standing_puts past c begun reply placed (has_past c begun.number placed) refl has)
 
+-- the operation at this place
+abbrev op_at : ClientNo → Begun → Reply → ℕ → Placed
+op_at c begun reply place = record { place = place; past = record { client = c; number = begun.number; op = begun.op; reply = reply } }
+
+-- what puts it there
+puts_at : (past : List Entry) (c : ClientNo) (begun : Begun) (reply : Reply) (placed : List Placed) (place : ℕ) → (caller_state c past).begun ≡ Some begun → has_past c begun.number placed ≡ false → ReadPlace c past begun.op reply place
+    → AnswerPuts past c (under_way (client_entries c past)) (Replied reply) placed (placed_in (op_at c begun reply place) placed)
+puts_at past c begun reply placed place is none read =
+    subst (λ o. AnswerPuts past c o (Replied reply) placed (placed_in (op_at c begun reply place) placed)) (sym is ∙ begun_is c past)
+    (subst (λ t. MatchBool t (placed_in (op_at c begun reply place) placed ≡ placed) ((p : ℕ) × ReadPlace c past begun.op reply p × (placed_in (op_at c begun reply place) placed ≡ placed_in (op_at c begun reply p) placed))) (sym none) (place, read, refl))
+
+-- some read tells its place
+some_place : (past : List Entry) (c : ClientNo) (begun : Begun) (reply : Reply) (placed : List Placed) → (caller_state c past).begun ≡ Some begun → has_past c begun.number placed ≡ false → AnswerHasPlace past c (Replied reply) placed
+    → (p : ℕ) × ReadPlace c past begun.op reply p
+some_place past c begun reply placed is none has =
+    let here : AnswerPuts past c (Some begun) (Replied reply) placed has.next = subst (λ o. AnswerPuts past c o (Replied reply) placed has.next) (sym (begun_is c past) ∙ is) has.puts in
+    let found : (p : ℕ) × ReadPlace c past begun.op reply p × (has.next ≡ placed_in (op_at c begun reply p) placed) =
+    subst (λ t. MatchBool t (has.next ≡ placed) ((p : ℕ) × ReadPlace c past begun.op reply p × (has.next ≡ placed_in (op_at c begun reply p) placed))) none here in
+    (found.0, found.1)
+
+-- so the reads that were noted do
+pub some_read : (past : List Entry) (c : ClientNo) (begun : Begun) (reply : Reply) (placed : List Placed) → (caller_state c past).begun ≡ Some begun → has_past c begun.number placed ≡ false → AnswerHasPlace past c (Replied reply) placed
+    → HasNoPlace (caller_state c past).notes begun.op reply → ⊥
+some_read past c begun reply placed is none has lacks = no_place c past begun.op reply begun has.serve is (some_place past c begun reply placed is none has) lacks
+
 pub puts_read : (past : List Entry) (c : ClientNo) (begun : Begun) (reply : Reply) (placed : List Placed) (old standing : List (List Bool)) (acts new : List PlacedAct) (place : ℕ)
     → (caller_state c past).begun ≡ Some begun → has_past c begun.number placed ≡ false → IsNotedPlace (caller_state c past).notes begun.op reply place
     → AnswerHasPlace past c (Replied reply) placed
-    → StandsInSet old placed → AreActsOf acts placed → IsPutInto acts (record { place = place; act = record { client = c; number = begun.number; op = begun.op } }) new
+    → StandsInSet old placed → AreActsOf acts placed → (NoneStandsAt place placed → IsPutInto acts (record { place = place; act = record { client = c; number = begun.number; op = begun.op } }) new)
     → ((d : ClientNo) (n : ℕ) → stands standing d n ≡ ((client_same c d && nat_eq begun.number n) || stands old d n))
     → AnswerIsInHistory past c (Replied reply) placed standing new
 puts_read past c begun reply placed old standing acts new place is none at has st are put more =
-    let p : Placed = record { place = place; past = record { client = c; number = begun.number; op = begun.op; reply = reply } } in
+    let read = noted_place c past begun.op reply place begun has.serve is (some_place past c begun reply placed is none has) at in
+    let puts = puts_at past c begun reply placed place is none read in
     record {
-      next = placed_in (record { place = place; past = record { client = c; number = begun.number; op = begun.op; reply = reply } }) placed;
-      puts = subst (λ o. AnswerPuts past c o (Replied reply) placed (placed_in (record { place = place; past = record { client = c; number = begun.number; op = begun.op; reply = reply } }) placed)) (sym is ∙ begun_is c past)
-          (subst (λ t. MatchBool t (placed_in (record { place = place; past = record { client = c; number = begun.number; op = begun.op; reply = reply } }) placed ≡ placed) ((place' : ℕ) × Rattle.mn_serial.specs.History.ReadPlace c past begun.op reply place' × (placed_in (record { place = place; past = record { client = c; number = begun.number; op = begun.op; reply = reply } }) placed ≡ placed_in (record { place = place'; past = record { client = c; number = begun.number; op = begun.op; reply = reply } }) placed))) (sym none)
-          (place, noted_place c past begun.op reply place begun is (some_place has) at, refl));
-      stands = λ d n. more d n ∙ (ap (λ t. (client_same c d && nat_eq begun.number n) || t) (st d n) ∙ sym (past_more d n p placed));
-      are = acts_more acts new placed p are put;
+      next = placed_in (op_at c begun reply place) placed;
+      puts = puts;
+      stands = λ d n. more d n ∙ (ap (λ t. (client_same c d && nat_eq begun.number n) || t) (st d n) ∙ sym (past_more d n (op_at c begun reply place) placed));
+      are = acts_more acts new placed (op_at c begun reply place) are (put (none_stands (op_at c begun reply place) placed (has.ascends (placed_in (op_at c begun reply place) placed) puts)));
     }
-  where
-    some_place : AnswerHasPlace past c (Replied reply) placed → (p : ℕ) × Rattle.mn_serial.specs.History.ReadPlace c past begun.op reply p
-    some_place (next, puts) =
-        let here : AnswerPuts past c (Some begun) (Replied reply) placed next = subst (λ o. AnswerPuts past c o (Replied reply) placed next) (sym (begun_is c past) ∙ is) puts in
-        let found : (p : ℕ) × Rattle.mn_serial.specs.History.ReadPlace c past begun.op reply p × (next ≡ placed_in (record { place = p; past = record { client = c; number = begun.number; op = begun.op; reply = reply } }) placed) =
-        subst (λ t. MatchBool t (next ≡ placed) ((p : ℕ) × Rattle.mn_serial.specs.History.ReadPlace c past begun.op reply p × (next ≡ placed_in (record { place = p; past = record { client = c; number = begun.number; op = begun.op; reply = reply } }) placed))) none here in
-        (found.0, found.1)
 
 -- What a program finds
 

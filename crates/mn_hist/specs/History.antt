@@ -21,13 +21,14 @@ use Rattle.mn_runs.specs.Calls.{under_way}
 use Rattle.mn_commits.specs.declared.commit_reader.CommittedMini.{CommittedMini}
 use Rattle.mn_commits.specs.CommitReader.{issued_of}
 use Rattle.mn_serial.specs.History.{Placed, has_past, AnswerPuts, EntryPuts}
+use Rattle.mn_serial.specs.OneHistory.{Ascend}
 use Rattle.mn_runs.specs.Seen.{Seen, seen_at}
 use Rattle.mn_hist.specs.declared.acts.PlacedAct.{PlacedAct}
 use Rattle.mn_hist.specs.declared.plans.Plans.{Plans}
 use Rattle.mn_hist.specs.Acts.{Act, act_of}
 use Rattle.mn_hist.specs.Plans.{Planner, planner_kept}
 use Rattle.mn_hist.specs.Table.{kept_at}
-use Rattle.mn_hist.specs.Shown.{is_of_catalog, IsShownBy, IsUnshown}
+use Rattle.mn_hist.specs.Shown.{is_of_catalog, IsShownBy, IsUnshownBy, LastServesAll}
 
 -- Reads of a client
 
@@ -99,6 +100,14 @@ caller_state c (e ∷ past) =
     if is_by c e then state_after (length past) e.what (seen_at e) (caller_state c past)
     else caller_state c past
 
+-- none of these reads shows the reply
+abbrev pub NoneShows : List Note → Op → Reply → Type 0
+NoneShows notes op reply = AllByRecursion (λ n. IsUnshownBy n.catalog n.seen op reply) notes
+
+-- none of them is of the catalog
+abbrev pub NoneIsOfCatalog : List Note → Type 0
+NoneIsOfCatalog notes = AllByRecursion (λ n. is_of_catalog n.seen ≡ false) notes
+
 -- the place is that of the last of these reads that shows the reply
 pub record IsLastNote (notes : List Note) (op : Op) (reply : Reply) (place : ℕ) : Type 0 where
   pub newer : List Note
@@ -107,7 +116,7 @@ pub record IsLastNote (notes : List Note) (op : Op) (reply : Reply) (place : ℕ
   pub split : notes ≡ newer ++ note ∷ older
   pub is_place : place ≡ note.place
   pub shown : IsShownBy note.catalog note.seen op reply
-  pub none : AllByRecursion (λ n. IsUnshown n.seen op reply) newer
+  pub none : NoneShows newer op reply
 
 -- the place is that of the first read of the catalog
 pub record IsFirstNote (notes : List Note) (place : ℕ) : Type 0 where
@@ -117,7 +126,7 @@ pub record IsFirstNote (notes : List Note) (place : ℕ) : Type 0 where
   pub split : notes ≡ newer ++ note ∷ older
   pub is_place : place ≡ note.place
   pub catalog : is_of_catalog note.seen ≡ true
-  pub none : AllByRecursion (λ n. is_of_catalog n.seen ≡ false) older
+  pub none : NoneIsOfCatalog older
 
 -- the place is that of the only read, if there is one
 abbrev pub IsOnlyNote : List Note → ℕ → Type 0
@@ -134,12 +143,24 @@ TellsCatalogRead false seens = AllByRecursion (λ seen. is_of_catalog seen ≡ f
 abbrev pub TellsNoteShows : Bool → Noting → Op → Reply → Type 0
 TellsNoteShows true n op reply =
     (seen : Seen) × (n.seens ≡ seen ∷ []) × IsShownBy n.catalog seen op reply
-TellsNoteShows false n op reply = AllByRecursion (λ seen. IsUnshown seen op reply) n.seens
+TellsNoteShows false n op reply =
+    AllByRecursion (λ seen. IsUnshownBy n.catalog seen op reply) n.seens
 
 -- where a reply that no plan gives, and that has a place, has it
 abbrev pub IsNotedPlace : List Note → Op → Reply → ℕ → Type 0
 IsNotedPlace notes (Scan version low high limit) (Pairs pairs) place = IsFirstNote notes place
 IsNotedPlace notes op reply place = IsOnlyNote notes place ⊎ IsLastNote notes op reply place
+
+-- these reads give it none
+abbrev pub HasNoPlace : List Note → Op → Reply → Type 0
+HasNoPlace notes (Scan version low high limit) (Pairs pairs) = NoneIsOfCatalog notes
+HasNoPlace notes op reply = NoneShows notes op reply
+
+-- wherever a client had this list of these entries, the catalog that it had read last served all
+-- that its list shows
+abbrev pub LastCatalogsServe : List Entry → Type 0
+LastCatalogsServe past = (c : ClientNo) (later before : List Entry) → past ≡ later ++ before
+    → LastServesAll (client_entries c before) (caller_state c before).catalog
 
 -- Plans
 
@@ -168,6 +189,10 @@ placed_act p = record { place = p.place; act = act_of p.past }
 abbrev pub acts_in : List PlacedAct → List Act
 acts_in acts = map (λ a. a.act) acts
 
+-- none of the operations stands at this place
+abbrev pub NoneStandsAt : ℕ → List Placed → Type 0
+NoneStandsAt place placed = AllByRecursion (λ q. q.place ≡ place → ⊥) placed
+
 -- all before the index have lower places than this one, and all behind it greater ones
 abbrev pub IsIndexIn : List PlacedAct → ℕ → ℕ → Type 0
 IsIndexIn acts place at =
@@ -182,6 +207,10 @@ planner_for a = record {
   client = Some a.client;
   begun = Some (record { number = a.number; op = a.op });
 }
+
+-- no operation is kept of the plan of this id
+abbrev pub KnowsNoAct : Plans → Tid → Type 0
+KnowsNoAct plans tid = (a : Act) → planner_kept plans tid ≡ Some (planner_for a) → ⊥
 
 -- whether an operation is kept as one that stands in the history
 abbrev pub stands : List (List Bool) → ClientNo → ℕ → Bool
@@ -200,15 +229,23 @@ StandsInSet standing placed =
 abbrev pub AreActsOf : List PlacedAct → List Placed → Type 0
 AreActsOf acts placed = acts ≡ map placed_act placed
 
--- the answer to a client's operation has its place in the history, if it puts something there
-abbrev pub AnswerHasPlace : List Entry → ClientNo → Answer → List Placed → Type 0
-AnswerHasPlace past c answer placed = (next : List Placed)
-    × AnswerPuts past c (under_way (client_entries c past)) answer placed next
+-- the answer to a client's operation has its place in the history, if it puts something there, and
+-- no other stands at that place
+pub record AnswerHasPlace (past : List Entry) (c : ClientNo) (answer : Answer)
+    (placed : List Placed) : Type 0 where
+  pub next : List Placed
+  pub puts : AnswerPuts past c (under_way (client_entries c past)) answer placed next
+  pub ascends : (after : List Placed)
+      → AnswerPuts past c (under_way (client_entries c past)) answer placed after → Ascend after
+  pub serve : LastCatalogsServe past
 
 -- so has what an entry that commits this puts there
-abbrev pub EntryHasPlace : List Entry → Entry → Option Issued → List Placed → Type 0
-EntryHasPlace past e committed placed =
-    (next : List Placed) × EntryPuts past e committed placed next
+pub record EntryHasPlace (past : List Entry) (e : Entry) (committed : Option Issued)
+    (placed : List Placed) : Type 0 where
+  pub next : List Placed
+  pub puts : EntryPuts past e committed placed next
+  pub ascends : (after : List Placed) → EntryPuts past e committed placed after → Ascend after
+  pub serve : LastCatalogsServe past
 
 -- what the answer to a client's operation puts into the history stands there
 pub record AnswerIsInHistory (past : List Entry) (c : ClientNo) (answer : Answer)

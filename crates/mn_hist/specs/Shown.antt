@@ -2,7 +2,7 @@
 use Rattle.std.specs.Prelude.{ℕ, ◌≡◌, Bool, true, false, ◌&&◌, nat_eq, List, [], ◌∷◌, Option, Some}
 use Rattle.std.specs.Prelude.{None}
 use Rattle.std.specs.Prelude.{⊤, Contains}
-use Rattle.mn_base.specs.Store.{number_named, value_at}
+use Rattle.mn_base.specs.Store.{value_at}
 use Rattle.mn_base.specs.Tree.{parents_of}
 use Rattle.mn_base.specs.declared.op.Op.{Op}
 use Rattle.mn_base.specs.declared.op.Step.{Step}
@@ -16,10 +16,11 @@ use Rattle.mn_page.specs.declared.page.Body.TheVariants.{Leaf, Inner}
 use Rattle.mn_page.specs.declared.page.Page.{Page}
 use Rattle.mn_page.specs.Forest.{heads_in}
 use Rattle.mn_page.specs.Grammar.{SpellsPage}
-use Rattle.mn_page.specs.Holds.{page_covers, page_serves}
+use Rattle.mn_page.specs.Holds.{page_covers}
 use Rattle.mn_runs.specs.declared.entry.Entry.{Entry}
 use Rattle.mn_runs.specs.Seen.{Seen, seen_in}
-use Rattle.mn_law.specs.Shown.{IsCatalogRead, CatalogReplies, ReadShows}
+use Rattle.mn_law.specs.Shown.{IsCatalogRead, CatalogReplies, ReadShows, ServesNamed, ShowsCatalog}
+use Rattle.mn_vtree.specs.Parents.{AreLess}
 use Rattle.mn_hist.specs.declared.shown.Read.{Read}
 
 -- the read as a client's list shows it
@@ -46,19 +47,36 @@ HasCatalog es None = ⊤
 HasCatalog es (Some bytes) =
     (seen : Seen) × Contains (seen_in es) seen × IsCatalogRead seen × (seen.bytes ≡ bytes)
 
+-- the bytes spell a catalog in which each version has a parent of a lower number, if any
+abbrev pub SpellsTree : List ℕ → List CatEntry → Type 0
+SpellsTree bytes entries = SpellsCatalog bytes entries × AreLess (parents_of (heads_in entries))
+
+-- what serves a version by the one catalog serves it by the other
+abbrev pub ServesAll : List CatEntry → List CatEntry → Type 0
+ServesAll one other = (name : List ℕ) (page : Page) → ServesNamed one name page
+    → ServesNamed other name page
+
+-- these bytes spell a catalog that serves all that any catalog of the list does
+abbrev pub LastServesAll : List Entry → Option (List ℕ) → Type 0
+LastServesAll es None = (entries : List CatEntry) → ShowsCatalog es entries → ⊥
+LastServesAll es (Some bytes) =
+    (last : List CatEntry) × SpellsTree bytes last
+    × ((entries : List CatEntry) → ShowsCatalog es entries → ServesAll entries last)
+
 -- the read shows the reply to the operation, where this catalog was read before it
 abbrev pub IsShownBy : Option (List ℕ) → Seen → Op → Reply → Type 0
 IsShownBy catalog seen op reply =
     (es : List Entry) → HasCatalog es catalog → ReadShows es seen op reply
 
--- it doesn't, whatever was read before it
-abbrev pub IsUnshown : Seen → Op → Reply → Type 0
-IsUnshown seen op reply = (es : List Entry) → ReadShows es seen op reply → ⊥
+-- it doesn't, where this catalog serves all that was read before it
+abbrev pub IsUnshownBy : Option (List ℕ) → Seen → Op → Reply → Type 0
+IsUnshownBy catalog seen op reply =
+    (es : List Entry) → LastServesAll es catalog → ReadShows es seen op reply → ⊥
 
 -- whether it does
 abbrev pub TellsShown : Bool → Option (List ℕ) → Seen → Op → Reply → Type 0
 TellsShown true catalog seen op reply = IsShownBy catalog seen op reply
-TellsShown false catalog seen op reply = IsUnshown seen op reply
+TellsShown false catalog seen op reply = IsUnshownBy catalog seen op reply
 
 -- Catalogs
 
@@ -67,6 +85,15 @@ abbrev pub CatalogBytesShow : List ℕ → Op → Reply → Type 0
 CatalogBytesShow bytes op reply =
     (entries : List CatEntry) × SpellsCatalog bytes entries
     × CatalogReplies (heads_in entries) op reply
+
+-- a reply that refuses an operation
+abbrev pub IsRefusing : Reply → Type 0
+IsRefusing Say.NoVersion = ⊤
+IsRefusing Say.Frozen = ⊤
+IsRefusing Say.NotFrozen = ⊤
+IsRefusing Say.NameTaken = ⊤
+IsRefusing Say.VersionsFull = ⊤
+IsRefusing reply = ⊥
 
 -- Leaves
 
@@ -90,14 +117,13 @@ leaf_value page key = found_at (page_covers key page) page.body key
 -- the catalog that these bytes spell says that the page serves the version of this name
 abbrev pub CatalogServes : List ℕ → List ℕ → Page → Type 0
 CatalogServes bytes name page =
-    (entries : List CatEntry) × SpellsCatalog bytes entries × (v : ℕ)
-    × (number_named (heads_in entries) name ≡ Some v) × (page_serves entries v page ≡ true)
+    (entries : List CatEntry) × SpellsTree bytes entries × ServesNamed entries name page
 
 -- what is known of a catalog's bytes is what they spell, with the tree of its versions
 abbrev pub IsKnownOf : List ℕ → Option (List CatEntry × List (Option ℕ)) → Type 0
-IsKnownOf bytes None = ⊤
+IsKnownOf bytes None = (entries : List CatEntry) → SpellsTree bytes entries → ⊥
 IsKnownOf bytes (Some known) =
-    SpellsCatalog bytes known.0 × (known.1 ≡ parents_of (heads_in known.0))
+    SpellsTree bytes known.0 × (known.1 ≡ parents_of (heads_in known.0))
 
 abbrev pub IsServedByCatalog : Option (List ℕ) → List ℕ → Page → Type 0
 IsServedByCatalog None name page = ⊥
@@ -110,9 +136,7 @@ pub record LeafBytesShow (bytes key : List ℕ) (reply : Reply) (page : Page) : 
   pub found : leaf_value page key ≡ Some value
   pub is : reply ≡ Say.Values (value ∷ [])
 
--- whether they do, where a leaf that does serves the version of this name by the catalog
-abbrev pub TellsLeafBytesShow : Bool → Option (List ℕ) → List ℕ → List ℕ → List ℕ → Reply → Type 0
-TellsLeafBytesShow true catalog bytes name key reply =
+-- they do, and by this catalog the leaf serves the version of this name
+abbrev pub LeafShowsBy : Option (List ℕ) → List ℕ → List ℕ → List ℕ → Reply → Type 0
+LeafShowsBy catalog bytes name key reply =
     (page : Page) × LeafBytesShow bytes key reply page × IsServedByCatalog catalog name page
-TellsLeafBytesShow false catalog bytes name key reply =
-    (page : Page) → LeafBytesShow bytes key reply page → ⊥

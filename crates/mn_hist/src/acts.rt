@@ -6,6 +6,7 @@ ghost use Rattle.mn_base.specs.declared.ids.ClientNo.{ClientNo as Who};
 ghost use Rattle.mn_hist.specs.Acts.{ChangesNothing, done_by, done_from};
 ghost use Rattle.mn_serial.specs.History.{Placed};
 ghost use Rattle.mn_hist.specs.History.{AreActsOf, IsIndexIn, stands, IsPutInto, acts_in};
+ghost use Rattle.mn_hist.specs.History.{NoneStandsAt};
 ghost use Rattle.mn_base.specs.History.{store_after};
 ghost use Rattle.mn_base.specs.Store.{applied};
 ghost use Rattle.mn_serial.specs.OneHistory.{Ascend};
@@ -79,24 +80,20 @@ pub fn is_standing(standing: &Table<bool>, client: ClientNo, number: u32) -> boo
 /// Where an operation of this place is put in: behind the last one whose place is not greater,
 /// which is looked for from the end. Those that it passes got their places while the operation was
 /// under way, and a client has one at a time: so over a whole log each operation is passed at most
-/// once by each client. NoMemory: another stands at the place, as at no place of a run.
-fn index_for(acts: &[PlacedAct<'_>], place: usize) -> Result<usize, NoMemory>
-    ensures within { IfOk result (λ at. at ≤ length acts.now) }
-    ensures index { IfOk result (λ at. (placed : List Placed) → Ascend placed
-        → AreActsOf acts.now placed → IsIndexIn acts.now place at) }
+/// once by each client.
+fn index_for(acts: &[PlacedAct<'_>], place: usize) -> usize
+    ensures within { result ≤ length acts.now }
+    ensures index { (placed : List Placed) → Ascend placed → AreActsOf acts.now placed
+        → NoneStandsAt place placed → IsIndexIn acts.now place result }
 {
     let mut at = acts.len();
     while at > 0 {
-        let before = acts[at - 1].place;
-        if before == place {
-            return Err(NoMemory);
-        }
-        if before < place {
-            return Ok(at);
+        if acts[at - 1].place <= place {
+            return at;
         }
         at -= 1;
     }
-    Ok(0)
+    0
 }
 
 /// Puts in an operation before the one of this index. NoMemory: there was no memory for it.
@@ -114,14 +111,14 @@ fn put_before<'a>(
 }
 
 /// Puts in an operation by its place, which mostly is the last one. NoMemory: there was no memory
-/// for it, or another stands at the place.
+/// for it.
 #[inline(always)]
 pub fn put<'a>(acts: &mut Vec<PlacedAct<'a>>, act: PlacedAct<'a>) -> Result<(), NoMemory>
     ensures { OnOk result ((placed : List Placed) → Ascend placed
-        → AreActsOf acts.old.items placed
+        → AreActsOf acts.old.items placed → NoneStandsAt act.entry.place placed
         → IsPutInto acts.old.items act.entry acts.new.items) }
 {
-    let at = index_for(acts, act.place)?;
+    let at = index_for(acts, act.place);
     if at < acts.len() {
         return put_before(acts, at, act);
     }

@@ -52,8 +52,8 @@ fn ranks_of(
 /// was answered so, or that was begun and has no answer. It takes time linear in the entries and
 /// operations, beside what the store takes.
 ///
-/// NoMemory: as for `history_of`. Where another than a client of the script has an operation in the
-/// history, always.
+/// NoMemory: there was no memory for it. Where another than a client of the script has an operation
+/// in the history, always.
 pub fn audit(alloc: Global, start: &Store, log: &Log, script: &Script) -> Result<Report, NoMemory>
     ensures audit { (from : Start) → OpenedRun from start.now (entries_of log.now)
         → IfOk result (IsAudit from start.now script.now (entries_of log.now)) }

@@ -1,11 +1,12 @@
 //! What the entries so far tell of each client, and where its replies have their place.
 ghost use Rattle.std.specs.Option.{option_map};
 ghost use Rattle.std.specs.Prelude.{◌≡◌, ◌⊎◌, ◌<◌, ◌∷◌, List, Some, length, replicate, slice_get};
-ghost use Rattle.std.specs.Prelude.{IfOk, OnOk, MatchOption, ⊤, reverse};
+ghost use Rattle.std.specs.Prelude.{IfOk, OnOk, MatchOption, reverse};
 ghost use Rattle.mn_runs.specs.Seen.{seen_at};
 ghost use Rattle.mn_hist.specs.History.{CallerState, idle, notes_in, with_catalog, with_seen};
 ghost use Rattle.mn_hist.specs.History.{TellsNoteShows, state_after, IsLastNote, IsFirstNote};
 ghost use Rattle.mn_hist.specs.History.{IsOnlyNote, IsNotedPlace, AreCallerStates};
+ghost use Rattle.mn_hist.specs.History.{HasNoPlace, NoneIsOfCatalog, NoneShows};
 ghost use Rattle.mn_runs.specs.declared.entry.Entry.{Entry as Step};
 ghost use Rattle.mn_hist.specs.Plans.{begun_of};
 
@@ -88,7 +89,8 @@ fn lent<'b, 'a>(catalog: &'b Option<Rc<KnownCatalog<'a>>>) -> Option<&'b KnownCa
 
 /// The place of the first read of the catalog. `notes` stand oldest first.
 fn first_catalog(notes: &[Noted<'_>]) -> Option<usize>
-    ensures { MatchOption result ⊤ (IsFirstNote (notes_in (reverse notes.now))) }
+    ensures { MatchOption result (NoneIsOfCatalog (notes_in (reverse notes.now)))
+        (IsFirstNote (notes_in (reverse notes.now))) }
 {
     for note in notes {
         if reads_catalog(note.entry) {
@@ -116,7 +118,8 @@ fn last_shown(
     reply: &Reply,
 ) -> Result<Option<usize>, NoMemory>
     ensures { IfOk result (λ found.
-        MatchOption found ⊤ (IsLastNote (notes_in (reverse notes.now)) op.now reply.now)) }
+        MatchOption found (NoneShows (notes_in (reverse notes.now)) op.now reply.now)
+        (IsLastNote (notes_in (reverse notes.now)) op.now reply.now)) }
 {
     let mut left = notes.len();
     while left > 0 {
@@ -137,7 +140,8 @@ fn only_or_last(
     op: &Op,
     reply: &Reply,
 ) -> Result<Option<usize>, NoMemory>
-    ensures { IfOk result (λ found. MatchOption found ⊤
+    ensures { IfOk result (λ found.
+        MatchOption found (NoneShows (notes_in (reverse notes.now)) op.now reply.now)
         (λ place. IsOnlyNote (notes_in (reverse notes.now)) place
         ⊎ IsLastNote (notes_in (reverse notes.now)) op.now reply.now place)) }
 {
@@ -149,20 +153,21 @@ fn only_or_last(
 
 /// Where a reply that no plan gives has its place, if it has one: a scan's pairs at its first
 /// catalog read, each other at the last read that shows it, which is the only one where there is
-/// one. NoMemory: there was no memory to tell, or none shows it.
+/// one. NoMemory: there was no memory to tell.
 pub fn read_place(
     alloc: Global,
     notes: &[Noted<'_>],
     op: &Op,
     reply: &Reply,
-) -> Result<usize, NoMemory>
-    ensures { IfOk result (IsNotedPlace (notes_in (reverse notes.now)) op.now reply.now) }
+) -> Result<Option<usize>, NoMemory>
+    ensures { IfOk result (λ found.
+        MatchOption found (HasNoPlace (notes_in (reverse notes.now)) op.now reply.now)
+        (IsNotedPlace (notes_in (reverse notes.now)) op.now reply.now)) }
 {
-    let place = match (op, reply) {
-        (Op::Scan { .. }, Reply::Pairs { .. }) => first_catalog(notes),
-        _ => only_or_last(alloc, notes, op, reply)?,
-    };
-    place.ok_or(NoMemory)
+    match (op, reply) {
+        (Op::Scan { .. }, Reply::Pairs { .. }) => Ok(first_catalog(notes)),
+        _ => only_or_last(alloc, notes, op, reply),
+    }
 }
 
 impl<'a> Caller<'a> {

@@ -1,13 +1,14 @@
 //! The operations of a log in order of place.
 ghost use Rattle.std.specs.Option.{option_map};
 ghost use Rattle.std.specs.Prelude.{◌≡◌, ◌∷◌, [], List, Option, Some, None, length, IfOk, OnOk};
+ghost use Rattle.std.specs.Prelude.{MatchOption};
 ghost use Rattle.mn_serial.specs.History.{Placed, IsHistory, pasts_of};
 ghost use Rattle.mn_runs.specs.declared.entry.Entry.{Entry as Step};
 ghost use Rattle.mn_hist.specs.Saying.{TellsAnswers};
 ghost use Rattle.mn_hist.specs.History.{AnswerHasPlace, EntryHasPlace, StandsInSet, AreActsOf};
 ghost use Rattle.mn_hist.specs.History.{AnswerIsInHistory, KnowsPlanners, IsIssuedUnderId};
 ghost use Rattle.mn_hist.specs.History.{CommitIsInHistory, CommitsAreInHistory, AreCallerStates};
-ghost use Rattle.mn_hist.specs.History.{planner_for, EntryIsInHistory};
+ghost use Rattle.mn_hist.specs.History.{planner_for, EntryIsInHistory, KnowsNoAct};
 ghost use Rattle.mn_runs.specs.Protocol.{Start, entries_of};
 ghost use Rattle.mn_law.specs.Run.{IsRun};
 ghost use Rattle.mn_hist.specs.Plans.{planner_kept};
@@ -35,17 +36,16 @@ use mn_runs::{Entry, Log, What};
 use mn_serial::{history_is_one, runs_are_one_history, runs_have_history};
 use std::alloc::Global;
 
-/// The operation of a plan of this id. NoMemory: none is known, as for no plan of a run.
-fn planned<'a>(plans: &Plans<'a>, tid: Tid) -> Result<Act<'a>, NoMemory>
-    ensures { IfOk result (λ act. planner_kept plans.now tid ≡ Some (planner_for act)) }
+/// The operation of a plan of this id, if it is known: of each plan of a run it is.
+fn planned<'a>(plans: &Plans<'a>, tid: Tid) -> Option<Act<'a>>
+    ensures { MatchOption result (KnowsNoAct plans.now tid)
+        (λ act. planner_kept plans.now tid ≡ Some (planner_for act)) }
 {
-    let Some(plan) = plans.of(tid) else {
-        return Err(NoMemory);
-    };
+    let plan = plans.of(tid)?;
     let (Some(client), Some(begun)) = (plan.client, plan.begun) else {
-        return Err(NoMemory);
+        return None;
     };
-    Ok(Act {
+    Some(Act {
         client,
         may_change: true,
         number: begun.number,
@@ -54,8 +54,8 @@ fn planned<'a>(plans: &Plans<'a>, tid: Tid) -> Result<Act<'a>, NoMemory>
 }
 
 /// Takes the answer to a client's operation: one that was replied to, and that no plan has put into
-/// the history, has its place at a read. NoMemory: there was no memory for it, or no read tells its
-/// place.
+/// the history, has its place at a read. One that has no place, as none of a run, is left out.
+/// NoMemory: there was no memory for it.
 fn take_answer<'a>(
     alloc: Global,
     callers: &[Caller<'a>],
@@ -82,7 +82,9 @@ fn take_answer<'a>(
     if is_standing(standing, client, begun.number) {
         return Ok(());
     }
-    let place = read_place(alloc, &caller.notes, begun.op.get(), reply)?;
+    let Some(place) = read_place(alloc, &caller.notes, begun.op.get(), reply)? else {
+        return Ok(());
+    };
     let act = Act {
         client,
         may_change: may_change(begun.op.get()),
@@ -94,7 +96,8 @@ fn take_answer<'a>(
 }
 
 /// Takes what is committed at this place: the operation of a plan comes last in the history, a read
-/// puts none there. NoMemory: there was no memory for it, or its plan is not known.
+/// puts none there. One whose plan isn't known, as none of a run, is left out. NoMemory: there was
+/// no memory for it.
 fn take_commit<'a>(
     plans: &Plans<'a>,
     standing: &mut Table<bool>,
@@ -111,7 +114,9 @@ fn take_commit<'a>(
     if committed.mini.is_read() {
         return Ok(());
     }
-    let act = planned(plans, committed.tid)?;
+    let Some(act) = planned(plans, committed.tid) else {
+        return Ok(());
+    };
     note_standing(standing, act.client, act.number)?;
     acts.push(PlacedAct { place, act })?;
     Ok(())
@@ -141,8 +146,7 @@ fn note_issue<'a>(
     plans.note(*tid, entry.client, begun)
 }
 
-/// Takes the answer that the entry gives, if it does. NoMemory: there was no memory for it, or no
-/// read tells its place.
+/// Takes the answer that the entry gives, if it does. NoMemory: there was no memory for it.
 fn take_step<'a>(
     alloc: Global,
     callers: &[Caller<'a>],
@@ -164,8 +168,7 @@ fn take_step<'a>(
     take_answer(alloc, callers, standing, acts, client, answer)
 }
 
-/// Takes what is committed at this place, if anything is. NoMemory: there was no memory for it, or
-/// its plan is not known.
+/// Takes what is committed at this place, if anything is. NoMemory: there was no memory for it.
 #[inline(always)]
 fn take_committed<'a>(
     plans: &Plans<'a>,
@@ -188,7 +191,7 @@ fn take_committed<'a>(
 }
 
 /// Takes what the entry of this client at this place tells beside what it commits. NoMemory: there
-/// was no memory for it, or no read tells the place of what was answered.
+/// was no memory for it.
 #[inline(always)]
 fn take_own<'a>(
     alloc: Global,
@@ -235,7 +238,7 @@ fn take_own<'a>(
 }
 
 /// Takes what the entry at this place tells beside what it commits. NoMemory: there was no memory
-/// for it, or no read tells the place of what was answered.
+/// for it.
 #[inline(always)]
 fn take_entry<'a>(
     alloc: Global,
@@ -306,8 +309,7 @@ impl<'a> HistoryReader<'a> {
         })
     }
 
-    /// Takes the next entry, which has this place. NoMemory: there was no memory for it, or no read
-    /// tells the place of what was answered.
+    /// Takes the next entry, which has this place. NoMemory: there was no memory for it.
     fn follow(&mut self, alloc: Global, place: usize, entry: &'a Entry) -> Result<(), NoMemory>
         requires { (past : List Step) × ReaderHasRead self.old past }
         ensures reads { (past : List Step) → ReaderHasRead self.old past
@@ -376,8 +378,8 @@ pub struct Ending<'a> {
     pub store: Store,
 }
 
-/// What the log comes to, from `start` on, with room for so many operations at once. NoMemory: as
-/// for `history_of`.
+/// What the log comes to, from `start` on, with room for so many operations at once. NoMemory:
+/// there was no memory for it.
 pub fn ending_of<'a>(
     alloc: Global,
     start: &Store,
@@ -406,8 +408,9 @@ pub fn ending_of<'a>(
 /// in doubt, or whose client died, has one too. It takes time linear in the entries, beside what
 /// the store takes.
 ///
-/// NoMemory: there was no memory for it. Where the log is no run from records whose memory holds
-/// `start`, also where no read tells the place of a reply, or a plan's operation is not known.
+/// Where the log is no run from records whose memory holds `start`, a reply whose place no read
+/// tells is left out, and so is a plan whose operation is not known. NoMemory: there was no memory
+/// for it.
 pub fn history_of(alloc: Global, start: &Store, log: &Log) -> Result<History, NoMemory>
     ensures history { (from : Start) → OpenedRun from start.now (entries_of log.now)
         → IfOk result (λ history. (placed : List Placed) × IsHistory (entries_of log.now) placed

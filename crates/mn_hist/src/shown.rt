@@ -1,5 +1,5 @@
 //! What a read of a client shows: the catalog, or a leaf.
-ghost use Rattle.std.specs.Prelude.{◌≡◌, ◌+◌, ◌*◌, ◌∷◌, [], ℕ, true, false, ⊤, IfOk, OnOk, List};
+ghost use Rattle.std.specs.Prelude.{◌≡◌, ◌+◌, ◌*◌, ◌∷◌, [], ℕ, false, IfOk, List};
 ghost use Rattle.std.specs.Prelude.{MatchOption};
 ghost use Rattle.std.specs.Option.{option_map, option_to_list};
 ghost use Rattle.mn_base.specs.Store.{listed, listing_of};
@@ -19,7 +19,9 @@ ghost use Rattle.std.specs.List.{AllByRecursion};
 ghost use Rattle.mn_hist.specs.History.{TellsCatalogRead};
 ghost use Rattle.mn_hist.specs.Shown.{as_seen, TestDecides, is_of_catalog, TellsShown};
 ghost use Rattle.mn_hist.specs.Shown.{CatalogBytesShow, CatalogServes, IsKnownOf};
-ghost use Rattle.mn_hist.specs.Shown.{TellsLeafBytesShow, lone_key, leaf_value, IsServedByCatalog};
+ghost use Rattle.mn_hist.specs.Shown.{IsRefusing, LeafShowsBy, lone_key, leaf_value};
+ghost use Rattle.mn_hist.specs.Shown.{IsServedByCatalog};
+ghost use Rattle.mn_vtree.specs.Parents.{AreLess};
 
 use mn_base::{Key, Name, NoMemory, NodeNo, Op, Reply, Step, Steps, Value, Version};
 use mn_catalog::{CatError, Catalog};
@@ -169,22 +171,18 @@ fn catalog_in(alloc: Global, bytes: &ReadBytes) -> Result<Option<Catalog>, NoMem
     }
 }
 
-/// Whether the reply is this refusing one. None where that one doesn't refuse.
-fn is_refusal(refusal: &Reply, reply: &Reply) -> Option<bool>
-    ensures { MatchOption result ⊤ (λ same. TestDecides same (refusal.now ≡ reply.now)) }
+/// Whether the reply is this refusing one.
+fn is_refusal(refusal: &Reply, reply: &Reply) -> bool
+    requires { IsRefusing refusal.now }
+    ensures { TestDecides result (refusal.now ≡ reply.now) }
 {
     match (refusal, reply) {
-        (Reply::NoVersion, Reply::NoVersion) => Some(true),
-        (Reply::Frozen, Reply::Frozen) => Some(true),
-        (Reply::NotFrozen, Reply::NotFrozen) => Some(true),
-        (Reply::NameTaken, Reply::NameTaken) => Some(true),
-        (Reply::VersionsFull, Reply::VersionsFull) => Some(true),
-        (Reply::NoVersion, _) => Some(false),
-        (Reply::Frozen, _) => Some(false),
-        (Reply::NotFrozen, _) => Some(false),
-        (Reply::NameTaken, _) => Some(false),
-        (Reply::VersionsFull, _) => Some(false),
-        _ => None,
+        (Reply::NoVersion, Reply::NoVersion) => true,
+        (Reply::Frozen, Reply::Frozen) => true,
+        (Reply::NotFrozen, Reply::NotFrozen) => true,
+        (Reply::NameTaken, Reply::NameTaken) => true,
+        (Reply::VersionsFull, Reply::VersionsFull) => true,
+        _ => false,
     }
 }
 
@@ -201,8 +199,8 @@ fn parent_name<'a>(entries: &'a [CatEntry], entry: &CatEntry) -> Option<&'a Name
 }
 
 fn same_names(one: Option<&Name>, other: Option<&Name>) -> bool
-    ensures { result ≡ true → option_map (λ n. n.now) one.entry
-        ≡ option_map (λ n. n.now) other.entry }
+    ensures { TestDecides result (option_map (λ n. n.now) one.entry
+        ≡ option_map (λ n. n.now) other.entry) }
 {
     match (one, other) {
         (Some(one), Some(other)) => one.as_slice() == other.as_slice(),
@@ -213,16 +211,21 @@ fn same_names(one: Option<&Name>, other: Option<&Name>) -> bool
 
 /// Whether the version is listed so by these entries.
 fn is_listed(entries: &[CatEntry], entry: &CatEntry, version: &Version) -> bool
-    ensures { result ≡ true → version.now ≡ listed (heads_in entries.now) (entry_head entry.now) }
+    ensures { TestDecides result
+        (version.now ≡ listed (heads_in entries.now) (entry_head entry.now)) }
 {
-    version.name.as_slice() == entry.name.as_slice()
-        && version.frozen == entry.frozen
-        && same_names(version.parent.as_ref(), parent_name(entries, entry))
+    if version.name.as_slice() != entry.name.as_slice() {
+        return false;
+    }
+    if version.frozen != entry.frozen {
+        return false;
+    }
+    same_names(version.parent.as_ref(), parent_name(entries, entry))
 }
 
 /// Whether the versions are listed so by these entries.
 fn are_listed(entries: &[CatEntry], versions: &[Version]) -> bool
-    ensures { result ≡ true → versions.now ≡ listing_of (heads_in entries.now) }
+    ensures { TestDecides result (versions.now ≡ listing_of (heads_in entries.now)) }
 {
     if versions.len() != entries.len() {
         return false;
@@ -236,23 +239,19 @@ fn are_listed(entries: &[CatEntry], versions: &[Version]) -> bool
 }
 
 /// Whether these entries show the reply.
-fn entries_show(catalog: &Catalog, op: &Op, reply: &Reply) -> Result<bool, NoMemory>
-    ensures { IfOk result (λ b. TestDecides b
-        (CatalogReplies (heads_in catalog.now) op.now reply.now)) }
+fn entries_show(catalog: &Catalog, op: &Op, reply: &Reply) -> bool
+    ensures { TestDecides result (CatalogReplies (heads_in catalog.now) op.now reply.now) }
 {
     if let Op::Versions = op {
         let Reply::Listing { versions } = reply else {
-            return Ok(false);
+            return false;
         };
-        if are_listed(catalog.entries(), versions.as_slice()) {
-            return Ok(true);
-        }
-        return Err(NoMemory);
+        return are_listed(catalog.entries(), versions.as_slice());
     }
     let Some(refusal) = catalog.admit(op) else {
-        return Ok(false);
+        return false;
     };
-    is_refusal(&refusal, reply).ok_or(NoMemory)
+    is_refusal(&refusal, reply)
 }
 
 /// Whether the catalog that the bytes spell shows the reply.
@@ -260,7 +259,7 @@ fn catalog_shows(alloc: Global, bytes: &ReadBytes, op: &Op, reply: &Reply) -> Re
     ensures { IfOk result (λ b. TestDecides b (CatalogBytesShow bytes.now op.now reply.now)) }
 {
     match catalog_in(alloc, bytes)? {
-        Some(catalog) => entries_show(&catalog, op, reply),
+        Some(catalog) => Ok(entries_show(&catalog, op, reply)),
         None => Ok(false),
     }
 }
@@ -268,7 +267,9 @@ fn catalog_shows(alloc: Global, bytes: &ReadBytes, op: &Op, reply: &Reply) -> Re
 /// The tree of the versions of these entries, if each parent has a lower number.
 fn tree_of(alloc: Global, entries: &[CatEntry]) -> Result<Option<VersionTree>, NoMemory>
     ensures { IfOk result (λ found.
-        MatchOption found ⊤ (λ tree. tree ≡ parents_of (heads_in entries.now))) }
+        MatchOption found (AreLess (parents_of (heads_in entries.now)) → ⊥)
+        (λ tree. AreLess (parents_of (heads_in entries.now))
+        × (tree ≡ parents_of (heads_in entries.now)))) }
 {
     let mut parents = Vec::with_capacity(alloc, entries.len())?;
     for entry in entries {
@@ -324,10 +325,9 @@ impl<'a> KnownCatalog<'a> {
         })
     }
 
-    /// Whether the page serves the version of this name by it. No: also where the bytes spell no
-    /// catalog with a tree of versions.
+    /// Whether the page serves the version of this name by it.
     fn serves(&self, name: &Name, page: &PageRef<'_>) -> bool
-        ensures { result ≡ true → CatalogServes self.now name.now page.now }
+        ensures { TestDecides result (CatalogServes self.now name.now page.now) }
     {
         let Some((catalog, tree)) = &self.known else {
             return false;
@@ -339,22 +339,14 @@ impl<'a> KnownCatalog<'a> {
     }
 }
 
-/// Finds that the page serves the version of this name by the catalog. NoMemory: it doesn't.
-fn expect_served(
-    catalog: Option<&KnownCatalog<'_>>,
-    name: &Name,
-    page: &PageRef<'_>,
-) -> Result<(), NoMemory>
-    ensures { OnOk result (IsServedByCatalog
+/// Whether the page serves the version of this name by the catalog, if there is one.
+fn is_served(catalog: Option<&KnownCatalog<'_>>, name: &Name, page: &PageRef<'_>) -> bool
+    ensures { TestDecides result (IsServedByCatalog
         (option_map (λ c. c.now) catalog.entry) name.now page.now) }
 {
-    let Some(catalog) = catalog else {
-        return Err(NoMemory);
-    };
-    if catalog.serves(name, page) {
-        Ok(())
-    } else {
-        Err(NoMemory)
+    match catalog {
+        Some(catalog) => catalog.serves(name, page),
+        None => false,
     }
 }
 
@@ -417,34 +409,33 @@ fn page_in<'a>(bytes: &'a ReadBytes) -> Option<PageRef<'a>>
     }
 }
 
-/// Whether the leaf that the bytes spell shows what a lone Get of the key finds in the version.
+/// Whether the leaf that the bytes spell shows what a lone Get of the key finds in the version,
+/// which it serves by the catalog.
 fn leaf_shows(
     bytes: &ReadBytes,
     catalog: Option<&KnownCatalog<'_>>,
     version: &Name,
     key: &Key,
     reply: &Reply,
-) -> Result<bool, NoMemory>
-    ensures { IfOk result (λ b. TellsLeafBytesShow b
+) -> bool
+    ensures { TestDecides result (LeafShowsBy
         (option_map (λ c. c.now) catalog.entry) bytes.now version.now key.now reply.now) }
 {
     let Some(page) = page_in(bytes) else {
-        return Ok(false);
+        return false;
     };
     let Some(value) = found_in(&page, key.as_slice()) else {
-        return Ok(false);
+        return false;
     };
     if !is_found(reply, value) {
-        return Ok(false);
+        return false;
     }
-    expect_served(catalog, version, &page)?;
-    Ok(true)
+    is_served(catalog, version, &page)
 }
 
 /// Whether the read shows the reply to the operation: a leaf what a lone Get finds, the catalog a
 /// refusal or the list of versions. `catalog` is what its client had read last before it. NoMemory:
-/// there was no memory to tell; or the read shows the reply by its bytes, but not by that catalog,
-/// or a catalog shows another list.
+/// there was no memory to tell.
 pub fn shows(
     alloc: Global,
     read: &Read<'_>,
@@ -467,5 +458,5 @@ pub fn shows(
     if !read.is_page() {
         return Ok(false);
     }
-    leaf_shows(read.bytes, catalog, version, key, reply)
+    Ok(leaf_shows(read.bytes, catalog, version, key, reply))
 }

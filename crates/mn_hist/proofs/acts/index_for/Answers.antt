@@ -1,9 +1,9 @@
-use Rattle.std.proofs.Common.{◌≡◌, ℕ, suc, ◌+◌, ◌-◌, ◌<◌, take, drop, subst, arith}
+use Rattle.std.proofs.Common.{◌≡◌, ℕ, suc, ◌+◌, ◌-◌, ◌<◌, ◌≤◌, length, take, drop, subst, arith}
 use Rattle.std.specs.List.{AllByRecursion}
 use Rattle.std.proofs.lemmas.Bool.Decides.{nat_tests}
 use Rattle.mn_hist.specs.declared.acts.PlacedAct.{PlacedAct}
 use Rattle.mn_hist.proofs.Loops.{all_drop}
-use Rattle.mn_hist.proofs.Putting.{lower_ones}
+use Rattle.mn_hist.proofs.Putting.{below_free, lower_ones}
 use Rattle.mn_hist.proofs.acts.index_for.Goals as goal
 
 back : (n : ℕ) → 0 < n → suc (n - 1) ≡ n
@@ -12,12 +12,14 @@ back n lt = omega (arith, lt)
 again : (n : ℕ) → 0 < n → n ≡ n - 1 + 1
 again n lt = omega (arith, lt)
 
-pub returns-then-before-place-2-clause-index : goal.returns-then-before-place-2-clause-index
-returns-then-before-place-2-clause-index c = λ placed up are.
+pub returns-then-acts-at-clause-index : goal.returns-then-acts-at-clause-index
+returns-then-acts-at-clause-index c = λ placed up are none.
     let within = c.loop-at.invariant.within in
-    let less : c.index-acts-at.result.place < c.args.place = grind (arith, nat_tests) in (
+    let in' : c.loop-at.at - 1 < length c.args.acts.now = omega (arith, within) in
+    let le : c.index-acts-at.result.place ≤ c.args.place = grind (arith, nat_tests) in
+    let less = below_free c.args.acts.now placed (c.loop-at.at - 1) c.index-acts-at.result c.args.place are none in' c.index-acts-at.is le in (
       subst (λ (n : ℕ). AllByRecursion (λ (a : PlacedAct). a.place < c.args.place) (take n c.args.acts.now)) (back c.loop-at.at c.loop-at-test.true)
-          (lower_ones c.args.acts.now placed (c.loop-at.at - 1) c.index-acts-at.result c.args.place up are (omega (arith, within)) c.index-acts-at.is less),
+          (lower_ones c.args.acts.now placed (c.loop-at.at - 1) c.index-acts-at.result c.args.place up are in' c.index-acts-at.is less),
       c.loop-at.invariant.greater,
     )
 

@@ -5,10 +5,11 @@ use Rattle.mn_hist.proofs.Putting.{put_last}
 use Rattle.mn_hist.proofs.acts.put.Goals as goal
 
 pub returns : goal.returns
-returns c = λ placed up are.
-    let last : length c.args.acts.now.items ≤ c.in_ok-at.at = omega (arith, c.len.ensures, c.if-at-len.false) in
-    put_last c.args.acts.now.items c.push.new.self.items c.args.act c.in_ok-at.at
-    (subst (λ (l : List PlacedAct). c.in_ok-at.at ≤ length l) c.deref.ensures.value c.in_ok-at.ensures.within) last
-    (subst (λ (l : List PlacedAct). IsIndexIn l c.args.act.place c.in_ok-at.at) c.deref.ensures.value
-    (c.in_ok-at.ensures.index placed up (subst (λ (l : List PlacedAct). AreActsOf l placed) (sym c.deref.ensures.value) are)))
+returns c = λ placed up are free.
+    let at = c.index_for-at.result in
+    let last : length c.args.acts.now.items ≤ at = omega (arith, c.len.ensures, c.if-at-len.false) in
+    put_last c.args.acts.now.items c.push.new.self.items c.args.act at
+    (subst (λ (l : List PlacedAct). at ≤ length l) c.deref.ensures.value c.index_for-at.ensures.within) last
+    (subst (λ (l : List PlacedAct). IsIndexIn l c.args.act.place at) c.deref.ensures.value
+    (c.index_for-at.ensures.index placed up (subst (λ (l : List PlacedAct). AreActsOf l placed) (sym c.deref.ensures.value) are) free))
     c.in_ok-push.ensures.items

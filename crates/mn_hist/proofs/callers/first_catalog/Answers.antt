@@ -1,5 +1,6 @@
-use Rattle.std.proofs.Common.{◌≡◌, ◌+◌, ◌∷◌, [], true, false, ap, sym, subst, ◌∙◌, take, drop, reverse}
+use Rattle.std.proofs.Common.{◌≡◌, ℕ, List, Option, ◌+◌, ◌∷◌, [], true, false, ap, sym, subst, ◌∙◌, take, drop, reverse}
 use Rattle.std.specs.List.{AllByRecursion}
+use Rattle.std.proofs.lemmas.List.{take_all}
 use Rattle.mn_node.proofs.Built.{all-reverse}
 use Rattle.mn_runs.specs.Seen.{Seen, seen_at}
 use Rattle.mn_hist.specs.History.{Noting, TellsCatalogRead, notes_in}
@@ -24,6 +25,12 @@ returns-then-reads_catalog c =
       split = notes_at c.args.notes.now c.loop-note.note-index c.note-item.result told.0 c.loop-note-test.true c.note-item.is one;
       is_place = ap (λ (n : Noting). n.place) c.note.view_is;
       catalog = told.2;
-      none = all_noted (λ (s : Seen). is_of_catalog s ≡ false) (reverse (take c.loop-note.note-index c.args.notes.now))
+      none = all_noted (λ (o : Option (List ℕ)) (s : Seen). is_of_catalog s ≡ false) (reverse (take c.loop-note.note-index c.args.notes.now))
           (all-reverse (λ (n : Noting). AllByRecursion (λ (s : Seen). is_of_catalog s ≡ false) n.seens) (take c.loop-note.note-index c.args.notes.now) c.loop-note.invariant);
     }
+
+pub returns : goal.returns
+returns c =
+    all_noted (λ (o : Option (List ℕ)) (s : Seen). is_of_catalog s ≡ false) (reverse c.args.notes.now)
+    (all-reverse (λ (n : Noting). AllByRecursion (λ (s : Seen). is_of_catalog s ≡ false) n.seens) c.args.notes.now
+    (subst (AllByRecursion (λ (n : Noting). AllByRecursion (λ (s : Seen). is_of_catalog s ≡ false) n.seens)) (take_all c.loop-note.note-index c.args.notes.now c.loop-note-test.false) c.loop-note.invariant))

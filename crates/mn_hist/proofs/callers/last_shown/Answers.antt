@@ -1,9 +1,9 @@
-use Rattle.std.proofs.Common.{◌≡◌, ℕ, ◌+◌, ◌-◌, ◌<◌, true, ap, subst, arith, take, drop, reverse}
+use Rattle.std.proofs.Common.{◌≡◌, ℕ, List, Option, ◌+◌, ◌-◌, ◌<◌, true, ap, subst, arith, take, drop, reverse}
 use Rattle.std.specs.List.{AllByRecursion}
 use Rattle.mn_node.proofs.Built.{all-reverse}
 use Rattle.mn_runs.specs.Seen.{Seen}
 use Rattle.mn_hist.specs.History.{Noting, TellsNoteShows, notes_in}
-use Rattle.mn_hist.specs.Shown.{IsUnshown}
+use Rattle.mn_hist.specs.Shown.{IsUnshownBy}
 use Rattle.mn_hist.proofs.Loops.{all_drop, drop_whole}
 use Rattle.mn_hist.proofs.Notings.{all_noted, notes_at}
 use Rattle.mn_hist.proofs.callers.last_shown.Goals as goal
@@ -14,7 +14,7 @@ back n lt = omega (arith, lt)
 pub loop-left-init : goal.loop-left-init
 loop-left-init c = record {
   within = omega arith;
-  none = drop_whole (λ (n : Noting). AllByRecursion (λ (s : Seen). IsUnshown s c.args.op.now c.args.reply.now) n.seens) c.args.notes.now;
+  none = drop_whole (λ (n : Noting). AllByRecursion (λ (s : Seen). IsUnshownBy n.catalog s c.args.op.now c.args.reply.now) n.seens) c.args.notes.now;
 }
 
 pub bounds-notes-left : goal.bounds-notes-left
@@ -23,7 +23,7 @@ bounds-notes-left c = let within = c.loop-left.invariant.within in omega (arith,
 pub returns-then-branch : goal.returns-then-branch
 returns-then-branch c =
     let within = c.loop-left.invariant.within in
-    let unshown = λ (s : Seen). IsUnshown s c.args.op.now c.args.reply.now in
+    let unshown = λ (o : Option (List ℕ)) (s : Seen). IsUnshownBy o s c.args.op.now c.args.reply.now in
     let told : TellsNoteShows true c.index-notes-left.result c.args.op.now c.args.reply.now = subst (λ b. TellsNoteShows b c.index-notes-left.result c.args.op.now c.args.reply.now) c.if-branch.true c.in_ok-note_shows.ensures in
     record {
       newer = notes_in (reverse (drop (c.loop-left.left - 1 + 1) c.args.notes.now));
@@ -33,16 +33,23 @@ returns-then-branch c =
       is_place = ap (λ (n : Noting). n.place) c.note.view_is;
       shown = told.2;
       none = all_noted unshown (reverse (drop (c.loop-left.left - 1 + 1) c.args.notes.now))
-          (all-reverse (λ (n : Noting). AllByRecursion unshown n.seens) (drop (c.loop-left.left - 1 + 1) c.args.notes.now) (subst (λ k. AllByRecursion (λ (n : Noting). AllByRecursion unshown n.seens) (drop k c.args.notes.now)) (back c.loop-left.left c.loop-left-test.true) c.loop-left.invariant.none));
+          (all-reverse (λ (n : Noting). AllByRecursion (unshown n.catalog) n.seens) (drop (c.loop-left.left - 1 + 1) c.args.notes.now) (subst (λ k. AllByRecursion (λ (n : Noting). AllByRecursion (unshown n.catalog) n.seens) (drop k c.args.notes.now)) (back c.loop-left.left c.loop-left-test.true) c.loop-left.invariant.none));
     }
 
 pub loop-left-preserved : goal.loop-left-preserved
 loop-left-preserved c =
     let within = c.loop-left.invariant.within in
-    let unshown = λ (s : Seen). IsUnshown s c.args.op.now c.args.reply.now in
+    let unshown = λ (o : Option (List ℕ)) (s : Seen). IsUnshownBy o s c.args.op.now c.args.reply.now in
     record {
       within = omega (arith, within);
-      none = all_drop (λ (n : Noting). AllByRecursion unshown n.seens) c.args.notes.now (c.loop-left.left - 1) c.index-notes-left.result (omega (arith, within)) c.index-notes-left.is
-          (subst (λ k. AllByRecursion (λ (n : Noting). AllByRecursion unshown n.seens) (drop k c.args.notes.now)) (back c.loop-left.left c.loop-left-test.true) c.loop-left.invariant.none)
+      none = all_drop (λ (n : Noting). AllByRecursion (unshown n.catalog) n.seens) c.args.notes.now (c.loop-left.left - 1) c.index-notes-left.result (omega (arith, within)) c.index-notes-left.is
+          (subst (λ k. AllByRecursion (λ (n : Noting). AllByRecursion (unshown n.catalog) n.seens) (drop k c.args.notes.now)) (back c.loop-left.left c.loop-left-test.true) c.loop-left.invariant.none)
           (subst (λ b. TellsNoteShows b c.index-notes-left.result c.args.op.now c.args.reply.now) c.if-branch.false c.in_ok-note_shows.ensures);
     }
+
+pub returns : goal.returns
+returns c =
+    let unshown = λ (o : Option (List ℕ)) (s : Seen). IsUnshownBy o s c.args.op.now c.args.reply.now in
+    let none : c.loop-left.left ≡ 0 = omega (arith, c.loop-left-test.false) in
+    all_noted unshown (reverse c.args.notes.now)
+    (all-reverse (λ (n : Noting). AllByRecursion (unshown n.catalog) n.seens) c.args.notes.now (subst (λ k. AllByRecursion (λ (n : Noting). AllByRecursion (unshown n.catalog) n.seens) (drop k c.args.notes.now)) none c.loop-left.invariant.none))

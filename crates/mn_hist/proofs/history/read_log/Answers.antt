@@ -35,7 +35,7 @@ loop-place-preserved c =
           let here : OpenedRun start store (c.entry.result.now ∷ past) = subst (OpenedRun start store) more run in
           let before : OpenedRun start store past = record { opened = here.opened; run = here.run.0 } in
           let told = c.loop-place.invariant.tells start store before in
-          let has = has_place start store past c.entry.result.now told.0 c.loop-place.invariant.laws here told.1.history in
+          let has = has_place start store past c.entry.result.now told.0 c.loop-place.invariant.laws c.loop-place.invariant.one here told.1.history in
           subst (λ (l : List Entry). (placed : List Placed) × ReaderHasTold c.follow.new.self l placed) (sym more) (c.in_ok-follow.ensures.tells start past told.0 before.run (sym c.loop-place.invariant.long) (c.loop-place.invariant.one start store past told.0 (record { opened = before; history = told.1.history })).ascending has told.1);
     }
 
