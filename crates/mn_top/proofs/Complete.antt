@@ -1,5 +1,5 @@
 -- Where nothing is in the way, whatever is due is a report or want of memory.
-use Rattle.std.proofs.Common.{◌≡◌, ◌≢◌, ◌≤◌, ◌<◌, ◌+◌, ◌-◌, ◌^◌, ◌∙◌, ℕ, zero, suc, true, false, List, [], ◌∷◌, length, get_or, refl, ap, sym, subst, arith, inl, inr, Ok, Err}
+use Rattle.std.proofs.Common.{◌≡◌, ◌≤◌, ◌<◌, ◌+◌, ◌-◌, ◌^◌, ◌∙◌, ℕ, zero, suc, true, List, [], ◌∷◌, length, get_or, refl, ap, sym, subst, arith, inl, inr, Ok, Err}
 use Rattle.std.specs.Prelude.{◌⊎◌, Option, Result, Some, None, IfSome, bytes_eq, min, slice_get}
 use Rattle.std.specs.List.{AllByRecursion}
 use Rattle.std.proofs.lemmas.Bool.{false≢true}
@@ -70,7 +70,7 @@ first_two : (words : List Text) (a b c d : Text) (more rest : List Text) → wor
 first_two words a b c d more rest e f = (cc, cc)
 
 -- words ask for one command on one number of disks
-one_asked : (words : List Text) (a b : Asked) → Asks words a → Asks words b → (a.command ≡ b.command) × (a.nodes ≡ b.nodes)
+pub one_asked : (words : List Text) (a b : Asked) → Asks words a → Asks words b → (a.command ≡ b.command) × (a.nodes ≡ b.nodes)
 one_asked words a b asks asks' =
     let same = first_two words _ _ _ _ _ _ asks.spelled asks'.spelled in
     let few = asks.few in let few' = asks'.few in (

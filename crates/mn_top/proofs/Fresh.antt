@@ -19,7 +19,7 @@ use Rattle.mn_runs.specs.Protocol.{base_at, start_of, start_records}
 use Rattle.mn_runs.proofs.Bases.{base_there}
 use Rattle.mn_top.specs.Opening.{IsOpenedAs}
 
-abbrev have_none : List (List Record) → Bool
+abbrev pub have_none : List (List Record) → Bool
 have_none records = list_all (λ list. nat_eq (length list) 0) records
 
 -- Lists without records
@@ -32,7 +32,7 @@ none_at ((r ∷ rs) ∷ lists) k none =
     let long = eqb-true (suc (length rs)) 0 (left_true (nat_eq (suc (length rs)) 0) (have_none lists) none) in
     absurd (omega arith)
 
-no_record : (records : List (List Record)) → have_none records ≡ true → (n : NodeNo) → start_records (start_of records) n ≡ []
+pub no_record : (records : List (List Record)) → have_none records ≡ true → (n : NodeNo) → start_records (start_of records) n ≡ []
 no_record records none n = ap (λ (l : List Record). reverse l) (none_at records n.0 none)
 
 are_sound : (nodes : ℕ) (lists : NodeNo → List Record) → ((n : NodeNo) → lists n ≡ []) → AreSound nodes lists

@@ -176,7 +176,7 @@ module _ (start : Start) (past : List Entry) (images : List (List ℕ)) where
       }
 
 -- such images hold a store
-pub hold : (start : Start) (store : Store) (past : List Entry) (images : List (List ℕ)) → length images ≡ start_nodes start → IsStopped start store past images → HoldStore images
+abbrev pub hold : (start : Start) (store : Store) (past : List Entry) (images : List (List ℕ)) → length images ≡ start_nodes start → IsStopped start store past images → HoldStore images
 hold start store past images count stopped = record {
   lists = records_of start (stopped.stops ++ past);
   store = store_after store (pasts_of stopped.placed);

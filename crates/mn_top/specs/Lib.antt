@@ -9,3 +9,4 @@ pub mod Check
 pub mod Logs
 pub mod Program
 pub mod Complete
+pub mod Promise

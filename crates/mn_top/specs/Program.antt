@@ -8,7 +8,7 @@ use Rattle.mn_gen.specs.Generated.{generated}
 use Rattle.mn_io.specs.DiskModel.{DiskState}
 use Rattle.mn_report.specs.Spelling.{spaced_number}
 use Rattle.mn_script.specs.declared.error.ScriptError.TheVariants.{Refused as WrongText}
-use Rattle.mn_script.specs.Script.{Script}
+use Rattle.mn_script.specs.Script.{IsScript, Script}
 use Rattle.mn_script.specs.Reading.{script_of}
 use Rattle.mn_top.specs.declared.due.DamageRule.{DamageRule}
 use Rattle.mn_top.specs.declared.due.DamageRule.TheVariants.{Log, Votes, Both, Forest, Runs, Kept}
@@ -101,10 +101,10 @@ IsDueBefore words known failed given NoMemory = Unit {0}
 IsDueBefore words known failed given due = ⊥
 
 -- the script that is asked for, of so many nodes: the source held its text, and was read to its
--- end; or it is the one of the number, and nothing was read
+-- end, and it keeps the rules and limits; or it is the one of the number, and nothing was read
 abbrev pub IsAsked : Option ℕ → Option (List ℕ) → Option (List ℕ) → ℕ → Script → Type 0
 IsAsked None known unread given script =
-    IsTextOf known script × (script.nodes ≡ given) × IsAtEnd unread
+    IsTextOf known script × (script.nodes ≡ given) × IsAtEnd unread × IsScript script
 IsAsked (Some number) known unread given script =
     (script ≡ generated given number) × (unread ≡ known)
 

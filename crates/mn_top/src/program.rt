@@ -2,9 +2,11 @@ ghost use Rattle.std.specs.Prelude.{◌≡◌, ℕ, List, Ok, Option, IfOk, IfEr
 ghost use Rattle.std.specs.Io.KnownBytes.{IsAtEnd};
 ghost use Rattle.mn_io.specs.Faults.{Rose};
 ghost use Rattle.mn_script.specs.Reading.{script_of as read_as};
+ghost use Rattle.mn_script.specs.Script.{IsScript};
 ghost use Rattle.mn_top.specs.declared.due.Due.{Due};
 ghost use Rattle.mn_top.specs.Complete.{IsComplete};
 ghost use Rattle.mn_top.specs.Crashes.{StayOpenable};
+ghost use Rattle.mn_top.specs.Promise.{KeepsPromise, SurvivesCrashes};
 ghost use Rattle.mn_top.specs.Words.{AskText};
 ghost use Rattle.mn_top.specs.Program.{Finishes, IsDue, IsDueBefore, IsTask};
 
@@ -12,6 +14,7 @@ use crate::check::check_disks;
 use crate::clap_words::read_words;
 use crate::due::Due;
 use crate::finish::finish;
+use crate::laws::disks_hold_one_store;
 use crate::outcome::Outcome;
 use crate::play::{Ended, play, without_log};
 use crate::words::{Command, Words, plays_script};
@@ -20,6 +23,7 @@ use mn_gen::gen_script;
 use mn_io::{Disk, ReadError, Sink, Source, read_all};
 use mn_redo::{damaged_or_not, one_list};
 use mn_script::{Script, ScriptError, read_script};
+use mn_serial::ends_opened;
 use std::alloc::Global;
 use std::sync::Wait;
 use std::thread::Threads;
@@ -47,6 +51,7 @@ fn text_of<R: Source>(alloc: Global, source: &mut R) -> Result<mn_io::Bytes, Due
 fn script_of(alloc: Global, text: &[u8], given: usize) -> Result<Script, Due>
     ensures spelled { IfOk result (λ script. read_as text.now ≡ Ok script) }
     ensures nodes { IfOk result (λ script. script.nodes ≡ given) }
+    ensures rules { IfOk result (λ script. IsScript script) }
     ensures due { (words : List (List ℕ)) (known : Option (List ℕ)) → AskText words given
         → IfSome known (λ told. text.now ≡ told) → IfErr result (IsDueBefore words known ⊥ given) }
 {
@@ -189,9 +194,20 @@ pub fn run_program<T: Threads + Wait + Sync, R: Source, W: Sink, D: Disk + Send,
         (Rose (R.faults source.old) (R.faults source.new))
         (Rose (W.faults sink.old) (W.faults sink.new)) disks.items result.disks.items
         result.status }
+
+    // At status 0 a report keeps the promise of the store, of honest disks.
+    ensures promise { KeepsPromise D.state words.now (R.remaining source.old)
+        (R.remaining source.new) disks.items result.disks.items (W.contents sink.old)
+        (W.contents sink.new) result.status }
+
+    // At any status, whatever a crash leaves holds a store in which all that was replied to stands.
+    ensures survives { SurvivesCrashes D.state words.now (R.remaining source.old)
+        (R.remaining source.new) disks.items result.disks.items result.log }
 {
     one_list();
     damaged_or_not();
+    ends_opened();
+    disks_hold_one_store();
     let Ended { due, disks, log } = ended(rt, alloc, words, source, disks, gate);
     Outcome {
         status: finish(alloc, sink, &due),

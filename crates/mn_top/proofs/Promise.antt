@@ -1,0 +1,11 @@
+pub mod Sayings
+pub mod Explaining
+pub mod Printing
+pub mod Holding
+pub mod Deaths
+pub mod Played
+pub mod Dying
+pub mod Marked
+pub mod Acts
+pub mod Surviving
+pub mod Keeping
